@@ -6,7 +6,7 @@ use std::test::Fail;
 use test_kit::{Gives, check_status};
 
 // Keys as `mfrx --json` writes them: when the first begins, in ms, and their names. Each lasts 68 ms, with gaps of 68 ms.
-type Piece = (u64, &'static [&'static str]);
+pub(crate) type Piece = (u64, &'static [&'static str]);
 
 // The keys, and the page.
 type Case = (&'static [Piece], &'static [u8]);
@@ -109,7 +109,7 @@ const CASES: &[Case] = &[
 ];
 
 // The text of keys.
-fn text_of(alloc: Global, pieces: &[Piece]) -> Result<String, AllocError> {
+pub(crate) fn text_of(alloc: Global, pieces: &[Piece]) -> Result<String, AllocError> {
     let mut text = String::new(alloc);
     for (start, names) in pieces {
         let mut at = *start;

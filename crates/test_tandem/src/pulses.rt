@@ -1,4 +1,5 @@
 // Calls that go out by dial pulses, at values that were reckoned by hand.
+use crate::cases::{Piece, text_of};
 use crate::statuses::{Mftandem, USAGE};
 use std::test::Fail;
 use test_kit::{Gives, check_status, check_writes};
@@ -125,4 +126,74 @@ fn writes_the_beginning_where_the_rows_fail(rt: HostRuntime) -> Result<(), Fail>
         ROOMS,
         line,
     )
+}
+
+// By table `deleting`: 2 by dial pulses; no digits, which are refused; no digits in MF; and 1 by dial pulses.
+const FEW: &[Piece] = &[
+    (0, &["KP", "2", "3", "6", "ST"]),
+    (1000, &["KP", "2", "3", "4", "ST"]),
+    (2000, &["KP", "2", "3", "5", "ST"]),
+    (3000, &["KP", "2", "3", "4", "5", "6", "7", "1", "ST"]),
+];
+
+// Six digits, all of which the route deletes.
+const ALL_DELETED: &[Piece] = &[(0, &["KP", "2", "3", "4", "5", "6", "7", "ST"])];
+
+// The words, the keys, and what stands on standard output and on standard error.
+type Refusing = (
+    &'static [&'static str],
+    &'static [Piece],
+    &'static [u8],
+    &'static [u8],
+);
+
+const REFUSING: &[Refusing] = &[
+    (
+        &["deleting"],
+        FEW,
+        b"0000 1 REFUSED UNKNOWN 3\n0000 2 KEYED 0031 KP:1100+1700 ST:1500+1700\nKEYED 1 REFUSED 1\n",
+        b"mftandem: calls by dial pulses, which --rows prints: 2\n",
+    ),
+    (
+        &["deleting", "--json"],
+        FEW,
+        b"{\"line\":0,\"outcome\":\"DIALLED\",\"pulses\":\"2\",\"trunk\":30}\n\
+{\"entry\":1,\"heard\":3,\"line\":0,\"outcome\":\"REFUSED\",\"reason\":\"UNKNOWN\"}\n\
+{\"entry\":2,\"keys\":[\"KP\",\"ST\"],\"line\":0,\"outcome\":\"KEYED\",\"sent\":\"\",\"trunk\":31}\n\
+{\"line\":0,\"outcome\":\"DIALLED\",\"pulses\":\"1\",\"trunk\":30}\n\
+{\"keyed\":1,\"refused\":1}\n",
+        b"",
+    ),
+    (
+        &["deleting", "--rows"],
+        FEW,
+        b"line,state,ms\n0,M,500\n0,B,60\n0,M,40\n0,B,60\n0,M,600\n0,B,400\n0,M,500\n0,B,60\n0,M,600\n",
+        b"mftandem: calls that are keyed or refused, which the page has: 2\n",
+    ),
+    (
+        &["deleting"],
+        ALL_DELETED,
+        b"0000 1 REFUSED UNKNOWN 6\nKEYED 0 REFUSED 1\n",
+        b"",
+    ),
+    (
+        &["deleting", "--rows"],
+        ALL_DELETED,
+        b"line,state,ms\n",
+        b"mftandem: calls that are keyed or refused, which the page has: 1\n",
+    ),
+];
+
+#[test]
+fn refuses_calls_without_digits(rt: HostRuntime) -> Result<(), Fail> {
+    for (words, pieces, written, line) in REFUSING {
+        let keys = text_of(rt.alloc(), pieces)?;
+        let wanted = Gives {
+            status: 0,
+            written,
+            line,
+        };
+        check_status(rt.alloc(), &Mftandem, words, keys.as_bytes(), wanted)?;
+    }
+    Ok(())
 }

@@ -9,6 +9,11 @@ const SEVEN: &[u8] =
 const PULSED: &[u8] = b"[[route]]\ncode = \"234\"\ntrunk = 30\ndelete = 3\nsend = \"dp\"\n\
 [[route]]\ncode = \"0\"\ntrunk = 1\n";
 
+// Trunk group 30 takes dial pulses, and 31 MF. Of a number of six digits or fewer nothing is left but the prefix.
+const DELETING: &[u8] = b"[[route]]\ncode = \"234\"\ntrunk = 30\ndelete = 6\nsend = \"dp\"\n\
+[[route]]\ncode = \"235\"\ntrunk = 31\ndelete = 6\n\
+[[route]]\ncode = \"236\"\ntrunk = 30\ndelete = 6\nprefix = \"2\"\nsend = \"dp\"\n";
+
 const WRONG_SEND: &[u8] = b"[[route]]\ncode = \"0\"\ntrunk = 1\n\
 [[route]]\ncode = \"234\"\ntrunk = 30\nsend = \"mf\"\n";
 
@@ -21,6 +26,7 @@ pub(crate) const FOLDER: Folder = Folder(&[
     ("none", b""),
     ("no toml", b"["),
     ("pulsed", PULSED),
+    ("deleting", DELETING),
     ("wrong send", WRONG_SEND),
     ("other send", OTHER_SEND),
     ("no trunk", b"[[route]]\ncode = \"234\"\n"),

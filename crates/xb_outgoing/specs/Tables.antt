@@ -1,9 +1,13 @@
 -- The table that a text writes, with the trunk groups that take dial pulses.
-use Rattle.std.specs.Prelude.{◌≡◌, ◌&&◌, ℕ, List, [], Bool, true, false, not, codes, Some, is_some, option_and_then, Result, Ok}
+use Rattle.std.specs.Prelude.{◌≡◌, ◌&&◌, ℕ, List, [], ◌∷◌, length, Bool, true, false, not, if◌then◌else◌, codes, Some, is_some, option_and_then, Result, Ok}
 use Rattle.std.specs.Result.{result_map_both}
 use Rattle.toml.specs.Data.{Data, Items, no_items, item, Members, as_table, get_member}
+use Rattle.xb_model.specs.declared.dialled.Dialled.{Dialled}
+use Rattle.xb_model.specs.declared.dialled.Dialled.TheVariants as dialled
 use Rattle.xb_model.specs.declared.order.Order.{Order}
 use Rattle.xb_model.specs.declared.order.Order.TheVariants as orders
+use Rattle.xb_model.specs.declared.reason.Reason.TheVariants.{Unknown}
+use Rattle.xb_model.specs.Routing.{routed}
 use Rattle.xb_routes.specs.declared.fault.RouteFault.{RouteFault}
 use Rattle.xb_routes.specs.declared.fault.RouteFault.TheVariants as route_fault
 use Rattle.xb_routes.specs.Steps.{and_then, or_fault}
@@ -41,6 +45,23 @@ outgoing_of_text text =
 abbrev pub is_dialled : List ℕ → Order → Bool
 is_dialled pulsed (orders.Key trunk sent) = has_group pulsed trunk
 is_dialled pulsed (orders.Refused reason heard) = false
+
+-- a call of no digits makes no pulse, and so the next office hears no number: to a trunk group that takes dial pulses it
+-- is refused, as an unknown number that has so many digits
+abbrev pub refused_without_digits : List ℕ → ℕ → Order → Order
+refused_without_digits pulsed heard (orders.Key trunk []) =
+    if has_group pulsed trunk then orders.Refused Unknown heard else orders.Key trunk []
+refused_without_digits pulsed heard (orders.Key trunk (digit ∷ sent)) = orders.Key trunk (digit ∷ sent)
+refused_without_digits pulsed heard (orders.Refused reason n) = orders.Refused reason n
+
+-- the order of a number: that of the routes, but of a call of no digits to a group that takes dial pulses
+abbrev pub outgoing_routed : Outgoing → List ℕ → Order
+outgoing_routed table number = refused_without_digits table.pulsed (length number) (routed table.table.routes number)
+
+-- the order of what was dialled: a refusal stays as it is
+abbrev pub outgoing_order : Outgoing → Dialled → Order
+outgoing_order table (dialled.Number number) = outgoing_routed table number
+outgoing_order table (dialled.Refused reason heard) = orders.Refused reason heard
 
 -- no item is a table with the key `send`
 abbrev pub has_send : Data → Bool

@@ -1,6 +1,6 @@
 //! Laws of these tables: functions that do nothing, each with a theorem as its contract.
 ghost use Rattle.xb_outgoing.specs.Tables.{TablesWithoutSend};
-ghost use Rattle.xb_outgoing.specs.Worked.{ReadsTables};
+ghost use Rattle.xb_outgoing.specs.Worked.{GivesOrders, ReadsTables};
 
 /// A table none of whose routes has `send` is taken just where it is a route table, and no trunk group takes dial
 /// pulses.
@@ -12,4 +12,9 @@ pub fn tables_without_send()
 /// What the definitions give at worked tables.
 pub fn worked_tables()
     ensures { ReadsTables }
+{}
+
+/// The orders that a worked table gives.
+pub fn worked_orders()
+    ensures { GivesOrders }
 {}

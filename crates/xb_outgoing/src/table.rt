@@ -1,10 +1,10 @@
 // The table with the trunk groups that take dial pulses.
-ghost use Rattle.std.specs.Prelude.{◌≡◌, ◌≢◌, IfErr, IfOk, Ok, Err, Some, None, codes};
+ghost use Rattle.std.specs.Prelude.{◌≡◌, ◌≢◌, ◌≤◌, IfErr, IfOk, Ok, Err, Some, None, codes};
 ghost use Rattle.toml.specs.Data.{get_member};
 ghost use Rattle.toml.specs.View.{items_view, table_view};
 ghost use Rattle.xb_outgoing.specs.declared.fault.OutgoingFault.TheVariants.{NoMemory, Routes};
 ghost use Rattle.xb_outgoing.specs.Groups.{has_group, items_at};
-ghost use Rattle.xb_outgoing.specs.Tables.{is_dialled, outgoing_of_text};
+ghost use Rattle.xb_outgoing.specs.Tables.{is_dialled, outgoing_of_text, outgoing_order, outgoing_routed, refused_without_digits};
 ghost use Rattle.xb_routes.specs.declared.fault.RouteFault.TheVariants.{NotToml};
 ghost use Rattle.xb_routes.specs.Text.{tree_of};
 
@@ -14,8 +14,8 @@ use crate::keys::value_at;
 use std::alloc::Global;
 use std::marker::Model;
 use toml::{Table, Value};
-use xb_model::{Order, Trunk};
-use xb_routes::{RouteFault, RouteTable};
+use xb_model::{Dialled, NumberDigits, Order, Reason, Trunk};
+use xb_routes::{RouteFault, RouteTable, order_by};
 
 /// A route table, and the trunk groups that take dial pulses. Clauses see these two.
 #[derive(Drop)]
@@ -98,6 +98,41 @@ impl OutgoingTable {
         match order {
             Order::Key(trunk, _) => self.takes_pulses(*trunk),
             Order::Refused(..) => false,
+        }
+    }
+    // An order, or the refusal of a call of no digits to a trunk group that takes dial pulses.
+    fn refused_without_digits(&self, heard: u8, order: Order) -> Order
+        ensures { result ≡ refused_without_digits self.now.pulsed heard order }
+    {
+        match order {
+            Order::Key(trunk, sent) => {
+                if sent.digits().is_empty() && self.takes_pulses(trunk) {
+                    Order::Refused(Reason::Unknown, heard)
+                } else {
+                    Order::Key(trunk, sent)
+                }
+            }
+            order => order,
+        }
+    }
+
+    /// The order of a number: that of its route. But to a trunk group that takes dial pulses a call of no digits is
+    /// refused as an unknown number: it makes no pulse, and so the next office hears no number.
+    pub fn order_of_number(&self, number: &NumberDigits) -> Order
+        ensures { result ≡ outgoing_routed self.now number.now }
+    {
+        let digits = number.digits();
+        let order = order_by(self.table.look(digits), number);
+        self.refused_without_digits(digits.len() as u8, order)
+    }
+
+    /// The order of what was dialled: that of the number. A refusal stays as it is.
+    pub fn order_of(&self, outcome: &Dialled) -> Order
+        ensures { result ≡ outgoing_order self.now outcome.now }
+    {
+        match outcome {
+            Dialled::Number(number) => self.order_of_number(number),
+            Dialled::Refused(reason, heard) => Order::Refused(*reason, *heard),
         }
     }
 }

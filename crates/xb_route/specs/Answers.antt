@@ -3,9 +3,8 @@ use Rattle.std.specs.Prelude.{ℕ, List, drop, length, if◌then◌else◌, Opti
 use Rattle.xb_model.specs.declared.order.Order.{Order}
 use Rattle.xb_model.specs.declared.order.Order.TheVariants as orders
 use Rattle.xb_model.specs.Numbers.{shortest_complete}
-use Rattle.xb_model.specs.Routing.{routed}
 use Rattle.xb_outgoing.specs.Groups.{has_group}
-use Rattle.xb_outgoing.specs.Tables.{Outgoing}
+use Rattle.xb_outgoing.specs.Tables.{Outgoing, outgoing_routed}
 use Rattle.xb_route.specs.declared.answer.Answer.{Answer}
 use Rattle.xb_route.specs.declared.answer.Answer.TheVariants.{Dialled, Incomplete, Routed}
 
@@ -18,7 +17,7 @@ sent_as pulsed number (orders.Refused reason heard) = Routed number (orders.Refu
 -- the number that digits complete gets its order; where they complete none, nothing is done
 abbrev pub answer_of : Outgoing → Option (List ℕ) → Answer
 answer_of table None = Incomplete
-answer_of table (Some number) = sent_as table.pulsed number (routed table.table.routes number)
+answer_of table (Some number) = sent_as table.pulsed number (outgoing_routed table number)
 
 -- what is done with digits by a table
 abbrev pub answer_to : Outgoing → List ℕ → Answer

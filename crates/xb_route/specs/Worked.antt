@@ -2,6 +2,7 @@
 use Rattle.std.specs.Prelude.{◌≡◌, ℕ, List, [], ◌∷◌, codes, Ok, Err}
 use Rattle.xb_model.specs.declared.plan.Plan.TheVariants.{Seven}
 use Rattle.xb_model.specs.LawfulLimits.{standard_limits}
+use Rattle.xb_model.specs.Routing.{coded_route}
 use Rattle.xb_model.specs.WorkedRows.{three_routes}
 use Rattle.xb_outgoing.specs.Tables.{Outgoing, outgoing}
 use Rattle.xb_routes.specs.Text.{table_by}
@@ -30,12 +31,23 @@ plain_line digits = answer_line digits (answer_to worked_table digits)
 abbrev pub json_line : List ℕ → List ℕ
 json_line digits = object_line digits (answer_to worked_table digits)
 
+-- a route that deletes all digits of 411, to a trunk group that takes dial pulses, and one of 611 in MF: a table that no
+-- text writes, since each route of a text keys a digit of a complete number
+abbrev pub deleting_table : Outgoing
+deleting_table = outgoing (table_by
+    (coded_route (4 ∷ 1 ∷ 1 ∷ []) 30 3 [] ∷ coded_route (6 ∷ 1 ∷ 1 ∷ []) 31 3 [] ∷ []) Seven standard_limits) (30 ∷ [])
+
+abbrev pub deleted_line : List ℕ → List ℕ
+deleted_line digits = answer_line digits (answer_to deleting_table digits)
+
 -- what is printed of some numbers
 pub record LinesOfNumbers : Type 0 where
   pub operator : plain_line (0 ∷ []) ≡ codes "0 KEYED 0001 KP:1100+1700 0:1300+1500 ST:1500+1700\n"
   pub dialled : plain_line (2 ∷ 3 ∷ 4 ∷ 5 ∷ 6 ∷ 7 ∷ 8 ∷ 9 ∷ [])
       ≡ codes "2345678 DIALLED 0017 565678 IGNORED 9\n"
   pub unknown : plain_line (5 ∷ 5 ∷ 5 ∷ 1 ∷ 2 ∷ 3 ∷ 4 ∷ []) ≡ codes "5551234 REFUSED UNKNOWN 7\n"
+  pub no_pulses : deleted_line (4 ∷ 1 ∷ 1 ∷ []) ≡ codes "411 REFUSED UNKNOWN 3\n"
+  pub no_keys : deleted_line (6 ∷ 1 ∷ 1 ∷ []) ≡ codes "611 KEYED 0031 KP:1100+1700 ST:1500+1700\n"
   pub incomplete : plain_line (2 ∷ 3 ∷ 4 ∷ []) ≡ codes "234 INCOMPLETE 3\n"
   pub left_over : plain_line (0 ∷ 9 ∷ 9 ∷ [])
       ≡ codes "0 KEYED 0001 KP:1100+1700 0:1300+1500 ST:1500+1700 IGNORED 99\n"

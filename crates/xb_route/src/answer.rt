@@ -6,7 +6,6 @@ ghost use Rattle.xb_route.specs.Pages.{AgreesWithPage};
 
 use xb_model::{Digit, KeyDigits, NumberDigits, Order, Plan, Trunk, plan_len};
 use xb_outgoing::OutgoingTable;
-use xb_routes::order_by;
 
 /// What an office does with digits that are dialled.
 #[derive(Drop)]
@@ -47,15 +46,15 @@ fn sent_as(table: &OutgoingTable, number: NumberDigits, order: Order) -> Answer
 
 /// What is done with digits by a table: the number that they complete by its plan is routed. The order of a number that
 /// is keyed, or refused, is what the page says of a line that dials just this number. What goes out by dial pulses is
-/// what the number's route keys where nothing is sent so.
+/// what the number's route keys where nothing is sent so, and that is a digit at least: where it is none, the number is
+/// refused as an unknown one.
 pub fn answer_to(table: &OutgoingTable, digits: &[Digit]) -> Answer
     ensures answer { result ≡ answer_to table.now digits.now }
     ensures page { AgreesWithPage table.now result }
 {
-    let routes = table.routes();
-    match completed(routes.plan(), digits) {
+    match completed(table.routes().plan(), digits) {
         Some(number) => {
-            let order = order_by(routes.look(number.digits()), &number);
+            let order = table.order_of_number(&number);
             sent_as(table, number, order)
         }
         None => Answer::Incomplete,

@@ -7,8 +7,7 @@ use Rattle.xb_incoming.specs.declared.key.TimedKey.{TimedKey}
 use Rattle.xb_incoming.specs.Attempts.{outcomes}
 use Rattle.xb_incoming.specs.Machine.{phase_after, told_by}
 use Rattle.xb_incoming.proofs.Taken.{all-told, told_from}
-use Rattle.xb_model.specs.Routing.{order_of}
-use Rattle.xb_outgoing.specs.Tables.{Outgoing}
+use Rattle.xb_outgoing.specs.Tables.{Outgoing, outgoing_order}
 use Rattle.xb_text.specs.Writing.{AppendsBeginning}
 use Rattle.xb_text.proofs.Beginnings.{AppendsBeginning-first, AppendsBeginning-second}
 use Rattle.xb_tandem.specs.declared.fault.ReadingFault.{ReadingFault}
@@ -80,12 +79,12 @@ module _ (form : Form) (line limit : ℕ) (table : Outgoing) (keys : List TimedK
       let ended = told_from limit (phase_after limit keys) [] in
       let all : outcomes limit keys ≡ told_by limit keys ++ ended
       = ap (λ (ks : List TimedKey). outcomes limit ks) (sym (append-nil keys)) ∙ all-told limit keys [] in
-      let told = orders_of table.table.routes (told_by limit keys) in
-      let orders : orders_of_keys limit table keys ≡ told ++ orders_of table.table.routes ended
-      = ap (orders_of table.table.routes) all ∙ map-append (order_of table.table.routes) (told_by limit keys) ended in
+      let told = orders_of table (told_by limit keys) in
+      let orders : orders_of_keys limit table keys ≡ told ++ orders_of table ended
+      = ap (orders_of table) all ∙ map-append (outgoing_order table) (told_by limit keys) ended in
       AppendsBeginning-first old new (told_orders form line table.pulsed (orders_of_keys limit table keys)) _
       (subst (λ os. AppendsBeginning old new (told_orders form line table.pulsed os)) (sym orders)
-      (begins-first form line table.pulsed told (orders_of table.table.routes ended) old new begun))
+      (begins-first form line table.pulsed told (orders_of table ended) old new begun))
 
 -- what comes of a text that may be known, as `Relays` says it of an office
 abbrev pub Comes : ℕ → Office → Option (List ℕ) → Result ℕ TandemFault → Option (List ℕ) → Option (List ℕ) → Type 0

@@ -9,8 +9,7 @@ use Rattle.xb_incoming.specs.Attempts.{outcomes}
 use Rattle.xb_incoming.specs.Machine.{HasTaken, told_by}
 use Rattle.xb_model.specs.declared.dialled.Dialled.{Dialled}
 use Rattle.xb_model.specs.declared.order.Order.{Order}
-use Rattle.xb_model.specs.Routing.{order_of}
-use Rattle.xb_outgoing.specs.Tables.{Outgoing}
+use Rattle.xb_outgoing.specs.Tables.{Outgoing, outgoing_order}
 use Rattle.xb_text.specs.Writing.{AppendsBeginning}
 use Rattle.xb_text.proofs.Beginnings.{AppendsBeginning-first, AppendsBeginning-second}
 use Rattle.xb_tandem.specs.declared.fault.WritingFault.{WritingFault}
@@ -50,7 +49,7 @@ told-with office register orders start out told =
 -- what is told of orders is what is told of keys
 takes-by : (limit : ℕ) (office : Office) (keys : List TimedKey) (r : Result (Unit {0}) WritingFault)
     (start out : Option (List ℕ)) → HasTaken limit office.register keys (told_by limit keys)
-    → Tells office (orders_of office.table.table.routes (told_by limit keys)) r start out → Takes limit office keys r start out
+    → Tells office (orders_of office.table (told_by limit keys)) r start out → Takes limit office keys r start out
 takes-by limit office keys (Ok u) start out taken told = record { taken = taken; told = told }
 takes-by limit office keys (Err f) start out taken told = told
 
@@ -60,23 +59,23 @@ module _ (limit : ℕ) (old : Office) (register : Register) (keys : List TimedKe
   pub takes-some : (new : Office) (outcome : Dialled) (r : Result (Unit {0}) WritingFault) (out : Option (List ℕ))
       → found ≡ Some outcome → IsWithCounts (with_register old register) new
       → ((orders : List Order) (begun : Option (List ℕ)) → HasTold (with_register old register) orders begun mid
-      → Tells new (orders ++ order_of old.table.table.routes outcome ∷ []) r begun out)
+      → Tells new (orders ++ outgoing_order old.table outcome ∷ []) r begun out)
       → Takes limit new (keys ++ key ∷ []) r start out
   takes-some new outcome r out is same tells =
       let given = subst (λ f. told_by limit keys ++ option_to_list f ≡ told_by limit (keys ++ key ∷ [])) is took.given in
       takes-by limit new (keys ++ key ∷ []) r start out
       (subst (λ reg. HasTaken limit reg (keys ++ key ∷ []) (told_by limit (keys ++ key ∷ []))) (sym same.register)
       (taken-told limit register (keys ++ key ∷ []) _ took))
-      (subst (λ (t : Outgoing). Tells new (orders_of t.table.routes (told_by limit (keys ++ key ∷ []))) r start out) (sym same.table)
-      (subst (λ orders. Tells new orders r start out) (orders-one old.table.table.routes (told_by limit keys) outcome _ given)
-      (tells (orders_of old.table.table.routes (told_by limit keys)) start (told-with old register _ start mid has.told))))
+      (subst (λ (t : Outgoing). Tells new (orders_of t (told_by limit (keys ++ key ∷ []))) r start out) (sym same.table)
+      (subst (λ orders. Tells new orders r start out) (orders-one old.table (told_by limit keys) outcome _ given)
+      (tells (orders_of old.table (told_by limit keys)) start (told-with old register _ start mid has.told))))
 
   pub takes-none : found ≡ None → HasWritten limit (with_register old register) (keys ++ key ∷ []) start mid
   takes-none is =
       let given = subst (λ f. told_by limit keys ++ option_to_list f ≡ told_by limit (keys ++ key ∷ [])) is took.given in record {
         taken = taken-told limit register (keys ++ key ∷ []) _ took;
         told = subst (λ orders. HasTold (with_register old register) orders start mid)
-            (orders-none old.table.table.routes (told_by limit keys) _ given)
+            (orders-none old.table (told_by limit keys) _ given)
             (told-with old register _ start mid has.told);
       }
 
@@ -86,23 +85,23 @@ module _ (limit : ℕ) (old : Office) (keys : List TimedKey) (found : Option Dia
   pub finishes-some : (new : Office) (outcome : Dialled) (r : Result (Unit {0}) WritingFault) (out : Option (List ℕ))
       → found ≡ Some outcome → IsWithCounts old new
       → ((orders : List Order) (begun : Option (List ℕ)) → HasTold old orders begun mid
-      → Tells new (orders ++ order_of old.table.table.routes outcome ∷ []) r begun out)
+      → Tells new (orders ++ outgoing_order old.table outcome ∷ []) r begun out)
       → Finishes limit new keys r start out
   finishes-some new outcome r out is same tells =
       let given = subst (λ f. told_by limit keys ++ option_to_list f ≡ outcomes limit keys) is ended in
-      subst (λ (t : Outgoing). Tells new (orders_of t.table.routes (outcomes limit keys)) r start out) (sym same.table)
-      (subst (λ orders. Tells new orders r start out) (orders-one old.table.table.routes (told_by limit keys) outcome _ given)
-      (tells (orders_of old.table.table.routes (told_by limit keys)) start has.told))
+      subst (λ (t : Outgoing). Tells new (orders_of t (outcomes limit keys)) r start out) (sym same.table)
+      (subst (λ orders. Tells new orders r start out) (orders-one old.table (told_by limit keys) outcome _ given)
+      (tells (orders_of old.table (told_by limit keys)) start has.told))
 
   pub finishes-none : found ≡ None → Finishes limit old keys (Ok tt) start mid
   finishes-none is =
       let given = subst (λ f. told_by limit keys ++ option_to_list f ≡ outcomes limit keys) is ended in
-      subst (λ orders. HasTold old orders start mid) (orders-none old.table.table.routes (told_by limit keys) _ given) has.told
+      subst (λ orders. HasTold old orders start mid) (orders-none old.table (told_by limit keys) _ given) has.told
 
 -- the end of the keys
 module _ (limit : ℕ) (old new : Office) (keys : List TimedKey) (start : Option (List ℕ)) (same : IsWithCounts old new) where
   abbrev orders : List Order
-  orders = orders_of new.table.table.routes (outcomes limit keys)
+  orders = orders_of new.table (outcomes limit keys)
 
   page-same : page_of_keys new.form new.line limit new.table keys ≡ page_of_keys old.form old.line limit old.table keys
   page-same =
@@ -169,7 +168,7 @@ began-none limit office keys line start out has = record {
   begun = subst (λ ks. AppendsBeginning start out (told_of_keys office.form office.line limit office.table ks))
       (sym (append-nil keys))
       (subst (AppendsBeginning start out) (append-nil _)
-      (told-first office (orders_of office.table.table.routes (told_by limit keys)) start out has.told []));
+      (told-first office (orders_of office.table (told_by limit keys)) start out has.told []));
 }
 
 pub said-none : (limit n : ℕ) (office : Office) (keys : List TimedKey) (line : List ℕ) (start out : Option (List ℕ))

@@ -11,8 +11,7 @@ use Rattle.xb_incoming.specs.declared.register.Register.{Register}
 use Rattle.xb_incoming.specs.Machine.{HasTaken, told_by}
 use Rattle.xb_model.specs.declared.dialled.Dialled.{Dialled}
 use Rattle.xb_model.specs.declared.order.Order.{Order}
-use Rattle.xb_model.specs.Routing.{CodedRoute, order_of}
-use Rattle.xb_outgoing.specs.Tables.{Outgoing, is_dialled}
+use Rattle.xb_outgoing.specs.Tables.{Outgoing, is_dialled, outgoing_order}
 use Rattle.xb_text.specs.Writing.{AppendsBeginning}
 use Rattle.xb_text.proofs.Beginnings.{AppendsBeginning-second}
 use Rattle.xb_tandem.specs.declared.office.Office.{Office}
@@ -171,20 +170,20 @@ left-told office orders start out told =
     left-by office.form office.table.pulsed orders (office.keyed + office.refused) office.dialled told.number told.dialled
 
 -- what is told with a key, as orders
-orders-more : (routes : List CodedRoute) (told : List Dialled) (outcome : Option Dialled) (all : List Dialled)
+orders-more : (table : Outgoing) (told : List Dialled) (outcome : Option Dialled) (all : List Dialled)
     → told ++ option_to_list outcome ≡ all
-    → orders_of routes told ++ orders_of routes (option_to_list outcome) ≡ orders_of routes all
-orders-more routes told outcome all is =
-    sym (map-append (order_of routes) told (option_to_list outcome)) ∙ ap (orders_of routes) is
+    → orders_of table told ++ orders_of table (option_to_list outcome) ≡ orders_of table all
+orders-more table told outcome all is =
+    sym (map-append (outgoing_order table) told (option_to_list outcome)) ∙ ap (orders_of table) is
 
-pub orders-one : (routes : List CodedRoute) (told : List Dialled) (outcome : Dialled) (all : List Dialled)
+pub orders-one : (table : Outgoing) (told : List Dialled) (outcome : Dialled) (all : List Dialled)
     → told ++ option_to_list (Some outcome) ≡ all
-    → orders_of routes told ++ order_of routes outcome ∷ [] ≡ orders_of routes all
-orders-one routes told outcome all is = orders-more routes told (Some outcome) all is
+    → orders_of table told ++ outgoing_order table outcome ∷ [] ≡ orders_of table all
+orders-one table told outcome all is = orders-more table told (Some outcome) all is
 
-pub orders-none : (routes : List CodedRoute) (told all : List Dialled)
-    → told ++ option_to_list None ≡ all → orders_of routes told ≡ orders_of routes all
-orders-none routes told all is = ap (orders_of routes) (sym (append-nil told) ∙ is)
+pub orders-none : (table : Outgoing) (told all : List Dialled)
+    → told ++ option_to_list None ≡ all → orders_of table told ≡ orders_of table all
+orders-none table told all is = ap (orders_of table) (sym (append-nil told) ∙ is)
 
 -- what a register has taken is told by its keys
 pub taken-told : (limit : ℕ) (register : Register) (keys : List TimedKey) (told : List Dialled)

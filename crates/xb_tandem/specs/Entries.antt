@@ -1,5 +1,5 @@
 -- What is written of orders: entries of a line, objects, or the rows that dial them; and the totals.
-use Rattle.std.specs.Prelude.{ℕ, zero, suc, ◌<◌, ◌≡◌, ◌+◌, List, [], ◌∷◌, ◌++◌, length, map, Bool, not, if◌then◌else◌, count_by}
+use Rattle.std.specs.Prelude.{ℕ, zero, suc, ◌<◌, ◌≡◌, ◌≢◌, ◌+◌, List, [], ◌∷◌, ◌++◌, length, map, Bool, not, if◌then◌else◌, count_by}
 use Rattle.std.specs.List.{AllByRecursion, filter, flat_map}
 use Rattle.xb_calls.specs.Calls.{AreDigits, DialledCall, call_of}
 use Rattle.xb_calls.specs.Dialling.{call_runs, line_runs, on_line}
@@ -16,9 +16,8 @@ use Rattle.xb_model.specs.declared.order.Order.TheVariants as orders
 use Rattle.xb_model.specs.Keyings.{marks_of}
 use Rattle.xb_model.specs.Page.{entries_text, entry_text, is_keyed, is_refused, totals_text}
 use Rattle.xb_model.specs.Records.{Run, break}
-use Rattle.xb_model.specs.Routing.{CodedRoute, order_of}
 use Rattle.xb_model.specs.Rows.{LoopRow}
-use Rattle.xb_outgoing.specs.Tables.{Outgoing, is_dialled, outgoing}
+use Rattle.xb_outgoing.specs.Tables.{Outgoing, is_dialled, outgoing, outgoing_order}
 use Rattle.xb_routes.specs.Table.{Table}
 use Rattle.xb_rows.specs.WrittenRows.{record_text, text_of_rows}
 use Rattle.xb_tandem.specs.declared.request.Form.{Form}
@@ -85,20 +84,20 @@ left_out forms.Page pulsed orders = length (dialled_numbers pulsed orders)
 left_out forms.Json pulsed orders = 0
 left_out forms.Rows pulsed orders = length (on_page pulsed orders)
 
--- the orders of outcomes, by routes
-abbrev pub orders_of : List CodedRoute → List Dialled → List Order
-orders_of routes found = map (order_of routes) found
+-- the orders of outcomes, by a table
+abbrev pub orders_of : Outgoing → List Dialled → List Order
+orders_of table found = map (outgoing_order table) found
 
 -- the page of keys; and what is told of those that they make certain, before they have ended
 abbrev pub orders_of_keys : ℕ → Outgoing → List TimedKey → List Order
-orders_of_keys limit table keys = orders_of table.table.routes (outcomes limit keys)
+orders_of_keys limit table keys = orders_of table (outcomes limit keys)
 
 abbrev pub page_of_keys : Form → ℕ → ℕ → Outgoing → List TimedKey → List ℕ
 page_of_keys form line limit table keys = page_of form line table.pulsed (orders_of_keys limit table keys)
 
 abbrev pub told_of_keys : Form → ℕ → ℕ → Outgoing → List TimedKey → List ℕ
 told_of_keys form line limit table keys =
-    told_orders form line table.pulsed (orders_of table.table.routes (told_by limit keys))
+    told_orders form line table.pulsed (orders_of table (told_by limit keys))
 
 -- the text of an order as it is told, after so many entries and so many calls by dial pulses
 abbrev pub hang_up_after : ℕ → List Run
@@ -141,12 +140,14 @@ pub record PagesAreTapes : Type 0 where
 abbrev pub calls_on : ℕ → List (List ℕ) → List DialledCall
 calls_on line numbers = map (call_of line) numbers
 
--- the rows of keys dial the numbers of the orders that take dial pulses: by every plan by which these are complete, and
--- all lawful limits that ten pulses a second fit, exactly these numbers are heard, in order
+-- the rows of keys dial the numbers of the orders that take dial pulses, each of which has a digit: by every plan by
+-- which these are complete, and all lawful limits that ten pulses a second fit, exactly these numbers are heard, in order
 pub record PulsesAreHeard : Type 0 where
   pub text : (line limit : ℕ) (table : Outgoing) (keys : List TimedKey)
       → page_of_keys forms.Rows line limit table keys
       ≡ text_of_rows (rows_of_numbers line (dialled_numbers table.pulsed (orders_of_keys limit table keys)))
+  pub some_digits : (limit : ℕ) (table : Outgoing) (keys : List TimedKey)
+      → AllByRecursion (λ number. number ≢ []) (dialled_numbers table.pulsed (orders_of_keys limit table keys))
   pub dialled : (line : ℕ) (numbers : List (List ℕ))
       → AreDialled ten_pulses_a_second (calls_on line numbers) (rows_of_numbers line numbers)
   pub heard : (line : ℕ) (numbers : List (List ℕ)) → line < LINES → AllByRecursion AreDigits numbers

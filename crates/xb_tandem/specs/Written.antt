@@ -53,7 +53,7 @@ Tells office orders (Err f) start out = AppendsBeginning start out (told_orders 
 -- the register has taken these keys, and the entries that they make certain were written
 pub record HasWritten (limit : ℕ) (office : Office) (keys : List TimedKey) (start out : Option (List ℕ)) : Type 0 where
   pub taken : HasTaken limit office.register keys (told_by limit keys)
-  pub told : HasTold office (orders_of office.table.table.routes (told_by limit keys)) start out
+  pub told : HasTold office (orders_of office.table (told_by limit keys)) start out
 
 -- or their beginning
 abbrev pub Takes : ℕ → Office → List TimedKey → Result (Unit {0}) WritingFault → Option (List ℕ) → Option (List ℕ)
@@ -66,7 +66,7 @@ Takes limit office keys (Err f) start out =
 abbrev pub Finishes : ℕ → Office → List TimedKey → Result (Unit {0}) WritingFault → Option (List ℕ) → Option (List ℕ)
     → Type 0
 Finishes limit office keys result start out =
-    Tells office (orders_of office.table.table.routes (outcomes limit keys)) result start out
+    Tells office (orders_of office.table (outcomes limit keys)) result start out
 
 -- and so was the page of the keys, of which this has nothing of so many orders
 abbrev pub Ends : ℕ → Office → List TimedKey → Result ℕ WritingFault → Option (List ℕ) → Option (List ℕ)

@@ -30,7 +30,7 @@ impl Office {
     ghost use Rattle.xb_tandem.specs.Entries.{order_line, told_orders};
     ghost use Rattle.xb_incoming.specs.declared.key.TimedKey.{TimedKey as Key};
     ghost use Rattle.xb_model.specs.declared.order.Order.{Order as Ordered};
-    ghost use Rattle.xb_model.specs.Routing.{order_of};
+    ghost use Rattle.xb_outgoing.specs.Tables.{outgoing_order};
     ghost use Rattle.xb_tandem.specs.Written.{CountsOne, Ends, Finishes, HasTold, HasWritten, IsWithCounts, Takes, Tells, left_of};
 
     /// Writes what comes before all calls: the header of rows.
@@ -85,13 +85,13 @@ impl Office {
         requires { self.old.keyed + self.old.refused + self.old.dialled + 1 < 2 ^ 64 }
         ensures told { (orders : List Ordered) (start : Option (List ℕ)) →
             HasTold self.old orders start (W.contents out.old) →
-            Tells self.new (orders ++ order_of self.old.table.table.routes outcome.now ∷ []) result start
+            Tells self.new (orders ++ outgoing_order self.old.table outcome.now ∷ []) result start
             (W.contents out.new) }
         ensures one { self.new.keyed + self.new.refused + self.new.dialled
             ≤ self.old.keyed + self.old.refused + self.old.dialled + 1 }
         ensures same { IsWithCounts self.old self.new }
     {
-        let order = self.table.routes().order_of(outcome);
+        let order = self.table.order_of(outcome);
         let text = self.order_line(alloc, &order)?;
         write_whole(out, text.as_bytes())?;
         self.count(&order);

@@ -6,7 +6,15 @@ use Rattle.xb_route.proofs.laws.lines_of_numbers.Goals as goal
 
 pub returns-clause-lines : goal.returns-clause-lines
 unfolding marks_text digits
-returns-clause-lines c = record { operator = refl; dialled = refl; unknown = refl; incomplete = refl; left_over = refl }
+returns-clause-lines c = record {
+  operator = refl;
+  dialled = refl;
+  unknown = refl;
+  no_pulses = refl;
+  no_keys = refl;
+  incomplete = refl;
+  left_over = refl;
+}
 
 pub returns-clause-objects : goal.returns-clause-objects
 unfolding digits serde_json_on_literals

@@ -1,8 +1,7 @@
 use Rattle.std.proofs.Common.{◌∙◌, ◌+◌, [], ◌∷◌, ◌++◌, ap, subst, sym}
 use Rattle.std.proofs.lemmas.Result.{err_from_is_err_and}
 use Rattle.std.specs.Io.KnownBytes.{Appends}
-use Rattle.xb_model.specs.Routing.{order_of}
-use Rattle.xb_routes.specs.Table.{Table}
+use Rattle.xb_outgoing.specs.Tables.{outgoing_order}
 use Rattle.xb_text.specs.Writing.{AppendsBeginning}
 use Rattle.xb_tandem.specs.Entries.{order_line}
 use Rattle.xb_tandem.specs.Written.{CountsOne, Tells}
@@ -12,7 +11,7 @@ use Rattle.xb_tandem.proofs.office.Office.tell.Goals as goal
 pub returns-in_err-text-clause-told : goal.returns-in_err-text-clause-told
 returns-in_err-text-clause-told g c = λ orders start told.
     let office = c.args.self.now in
-    let order = order_of office.table.table.routes c.args.outcome.now in
+    let order = outgoing_order office.table c.args.outcome.now in
     let out = g.W.Write.contents c.args.out.now in
     let p = err_from_is_err_and c.from_residual.result c.from_residual.ensures.1 in
     subst (λ r. Tells office (orders ++ order ∷ []) r start out) (sym p.1)
@@ -21,8 +20,8 @@ returns-in_err-text-clause-told g c = λ orders start told.
 pub returns-in_err-write_whole-clause-told : goal.returns-in_err-write_whole-clause-told
 returns-in_err-write_whole-clause-told g c = λ orders start told.
     let office = c.args.self.now in
-    let order = order_of office.table.table.routes c.args.outcome.now in
-    let is = c.order_of-order.ensures ∙ ap (λ (t : Table). order_of t.routes c.args.outcome.now) c.routes.ensures in
+    let order = outgoing_order office.table c.args.outcome.now in
+    let is = c.order_of-order.ensures in
     let mid = g.W.Write.contents c.args.out.now in
     let out = g.W.Write.contents c.write_whole.new.out in
     let p = err_from_is_err_and c.from_residual-in_err-write_whole.result c.from_residual-in_err-write_whole.ensures.1 in
@@ -36,8 +35,8 @@ returns-in_err-write_whole-clause-told g c = λ orders start told.
 pub returns-clause-told : goal.returns-clause-told
 returns-clause-told g c = λ orders start told.
     let office = c.args.self.now in
-    let order = order_of office.table.table.routes c.args.outcome.now in
-    let is = c.order_of-order.ensures ∙ ap (λ (t : Table). order_of t.routes c.args.outcome.now) c.routes.ensures in
+    let order = outgoing_order office.table c.args.outcome.now in
+    let is = c.order_of-order.ensures in
     let mid = g.W.Write.contents c.args.out.now in
     let out = g.W.Write.contents c.write_whole.new.out in
     told-more office c.count.new.self orders order start mid told out c.count.ensures.same
