@@ -1,5 +1,5 @@
 -- What a text line tells, by what JSON is read of it, and the steps of reading a text.
-use Rattle.std.proofs.Common.{◌≡◌, ◌∙◌, ℕ, ◌+◌, ◌≤◌, Bool, true, false, List, [], ◌∷◌, length, Option, Some, None, Ok, Err, ap, sym, inr, refl, arith, eqb, ne_eqb, suc, cond, ◌<◌}
+use Rattle.std.proofs.Common.{◌≡◌, ◌∙◌, ℕ, ◌+◌, ◌≤◌, Bool, true, false, List, [], ◌∷◌, length, Some, None, Ok, Err, ap, sym, inr, refl, arith, eqb, ne_eqb, suc, cond, ◌<◌}
 use Rattle.std.specs.Prelude.{IfErr, IfOk, if◌then◌else◌}
 use Rattle.std.specs.Str.{IsUtf8, is_utf8}
 use Rattle.std.proofs.lemmas.Bool.{cond-true, cond-false}

@@ -1,4 +1,4 @@
-use Rattle.std.proofs.Common.{◌≡◌, ◌∙◌, ℕ, List, [], ◌∷◌, length, false, ap, sym, subst, arith, Err, Ok}
+use Rattle.std.proofs.Common.{◌≡◌, ◌∙◌, ℕ, List, ◌∷◌, length, false, ap, sym, subst, arith, Err, Ok}
 use Rattle.std.specs.Prelude.{IfErr, option_copied}
 use Rattle.std.proofs.lemmas.Result.{err_from_is_err_and}
 use Rattle.xb_text.specs.Pieces.{pieces, pieces_left}
