@@ -2,7 +2,7 @@
 
 Makes the sound of the entries of OBJECTS, as mflive --json tells them, or of those of a line: each keying at its time, by
 sines of its own, after LEAD ms, and at the standard times else. SAMPLES, which mftone --at --raw has written, have to be
-the same to the sample. It prints the lines that tell which entries cut the one before them. scripts/tries/sound calls it.
+the same to the sample. It prints the lines that tell which entries the next one cuts. scripts/tries/sound calls it.
 """
 import json
 import struct
@@ -27,12 +27,15 @@ lead = int(sys.argv[1])
 with open(sys.argv[2]) as file:
     entries = [it for it in map(json.loads, file) if it.get("outcome") == "KEYED"]
 wanted = []
+before = None
 for it in entries:
     if len(sys.argv) > 3 and it["line"] != int(sys.argv[3]):
         continue
     at = 8 * it["at_ms"]
     if len(wanted) > at:
-        print(f"mftone: entry {it['entry']} of line {it['line']} cuts the one before it at {it['at_ms']} ms")
+        print(f"mftone: entry {before['entry']} of line {before['line']} is cut at {it['at_ms']} ms"
+              f" by entry {it['entry']} of line {it['line']}")
+    before = it
     wanted = wanted[:at] + [0] * (at - len(wanted)) + keyed(lead, it["keys"])
 got = sys.stdin.buffer.read()
 if len(got) != 2 * len(wanted):

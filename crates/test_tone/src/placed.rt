@@ -29,7 +29,7 @@ const PLACES: &[(&[&str], usize, &[(usize, usize)], &[u8])] = &[
         &["--at", "--lead", "0", "--gap", "0"],
         (1_150 + 236) * 8,
         &[(8_001, 9_199), (9_201, 11_087)],
-        b"mftone: entry 2 of line 7 cuts the one before it at 1150 ms\n",
+        b"mftone: entry 1 of line 7 is cut at 1150 ms by entry 2 of line 7\n",
     ),
 ];
 

@@ -148,11 +148,74 @@ const CASES: &[(&[&str], &[u8], u8, &[u8])] = &[
 // The words after the program's name, entries that lie in time, and what stands on standard error with status 1;
 // nothing is written.
 const ENTRIES: &[(&[&str], &[u8], &[u8])] = &[
-    (&["--at"], b"", b"mftone: there is no such entry\n"),
+    // the text was cut: before its first line, after a line, and in the LF of one
+    (
+        &["--at"],
+        b"",
+        b"mftone: text line 1 is missing: the totals of mflive --json end the entries\n",
+    ),
+    (
+        &["--at"],
+        b"{\"at_ms\":1,\"entry\":1,\"line\":7,\"outcome\":\"KEYED\",\"sent\":\"5\",\"trunk\":1}\n",
+        b"mftone: text line 2 is missing: the totals of mflive --json end the entries\n",
+    ),
+    (
+        &["--at", "--line", "7"],
+        b"{\"event\":\"SEIZED\"}\n{\"at_ms\":1,\"entry\":1,\"line\":7,\"outcome\":\"KEYED\",\"sent\":\"5\",\"trunk\":1}",
+        b"mftone: text line 3 is missing: the totals of mflive --json end the entries\n",
+    ),
+    // text after the totals: an empty line, and another run
     (
         &["--at"],
         b"{\"keyed\":0,\"refused\":0}\n\n",
-        b"mftone: text line 2 is no JSON object\n",
+        b"mftone: text line 1 has the totals, and text stands after them\n",
+    ),
+    (
+        &["--at"],
+        b"{\"event\":\"SEIZED\"}\n{\"keyed\":0,\"refused\":0}\n{\"keyed\":0,\"refused\":0}\n",
+        b"mftone: text line 2 has the totals, and text stands after them\n",
+    ),
+    // one more keyed, one more refused, one fewer, and the two the other way round; --line does not matter
+    (
+        &["--at"],
+        b"{\"at_ms\":1,\"entry\":1,\"line\":7,\"outcome\":\"KEYED\",\"sent\":\"5\",\"trunk\":1}\n\
+{\"keyed\":2,\"refused\":0}\n",
+        b"mftone: text line 2 has totals that are not those of the entries\n",
+    ),
+    (
+        &["--at", "--line", "7"],
+        b"{\"at_ms\":1,\"entry\":1,\"line\":7,\"outcome\":\"KEYED\",\"sent\":\"5\",\"trunk\":1}\n\
+{\"keyed\":1,\"refused\":1}\n",
+        b"mftone: text line 2 has totals that are not those of the entries\n",
+    ),
+    (
+        &["--at", "--line", "7"],
+        b"{\"at_ms\":1,\"entry\":1,\"line\":7,\"outcome\":\"KEYED\",\"sent\":\"5\",\"trunk\":1}\n\
+{\"at_ms\":9,\"entry\":1,\"line\":8,\"outcome\":\"KEYED\",\"sent\":\"5\",\"trunk\":1}\n\
+{\"keyed\":1,\"refused\":0}\n",
+        b"mftone: text line 3 has totals that are not those of the entries\n",
+    ),
+    (
+        &["--at"],
+        b"{\"at_ms\":1,\"entry\":1,\"heard\":3,\"line\":7,\"outcome\":\"REFUSED\",\"reason\":\"UNKNOWN\"}\n\
+{\"keyed\":1,\"refused\":0}\n",
+        b"mftone: text line 2 has totals that are not those of the entries\n",
+    ),
+    (
+        &["--at"],
+        b"{\"keyed\":0,\"refused\":0}",
+        b"mftone: there is no such entry\n",
+    ),
+    // an empty text line, and a byte order mark
+    (
+        &["--at"],
+        b"\n{\"keyed\":0,\"refused\":0}\n",
+        b"mftone: text line 1 is no JSON object\n",
+    ),
+    (
+        &["--at"],
+        b"\xef\xbb\xbf{\"keyed\":0,\"refused\":0}\n",
+        b"mftone: text line 1 is no JSON object\n",
     ),
     (
         &["--at"],
@@ -162,6 +225,11 @@ const ENTRIES: &[(&[&str], &[u8], &[u8])] = &[
     (
         &["--at"],
         b"{\"keyed\":1}\n",
+        b"mftone: text line 1 has no entry, event or totals of mflive --json\n",
+    ),
+    (
+        &["--at"],
+        b"{\"keyed\":0,\"refused\":\"0\"}\n",
         b"mftone: text line 1 has no entry, event or totals of mflive --json\n",
     ),
     // the object of a mark
@@ -193,32 +261,37 @@ const ENTRIES: &[(&[&str], &[u8], &[u8])] = &[
     ),
     (
         &["--at", "--line", "42"],
-        b"{\"at_ms\":1,\"entry\":1,\"heard\":3,\"line\":7,\"outcome\":\"REFUSED\",\"reason\":\"UNKNOWN\"}",
+        b"{\"at_ms\":1,\"entry\":1,\"heard\":3,\"line\":7,\"outcome\":\"REFUSED\",\"reason\":\"UNKNOWN\"}\n\
+{\"keyed\":0,\"refused\":1}\n",
         b"mftone: there is no such entry\n",
     ),
     (
         &["--at"],
-        b"{\"at_ms\":1,\"entry\":1,\"heard\":3,\"line\":7,\"outcome\":\"REFUSED\",\"reason\":\"UNKNOWN\"}",
+        b"{\"at_ms\":1,\"entry\":1,\"heard\":3,\"line\":7,\"outcome\":\"REFUSED\",\"reason\":\"UNKNOWN\"}\n\
+{\"keyed\":0,\"refused\":1}\n",
         b"mftone: none of the calls asked for is keyed\n",
     ),
     // two lines, each with a clock of its own
     (
         &["--at"],
         b"{\"at_ms\":2,\"entry\":1,\"line\":7,\"outcome\":\"KEYED\",\"sent\":\"5\",\"trunk\":1}\n\
-{\"at_ms\":1,\"entry\":1,\"line\":8,\"outcome\":\"KEYED\",\"sent\":\"5\",\"trunk\":1}\n",
-        b"mftone: text line 2 has a time before that of the entry before it; --line N takes one line alone\n",
+{\"at_ms\":1,\"entry\":1,\"line\":8,\"outcome\":\"KEYED\",\"sent\":\"5\",\"trunk\":1}\n\
+{\"keyed\":2,\"refused\":0}\n",
+        b"mftone: text line 2 has a time before that of the entry before it: lines have times of their own, --line N takes one\n",
     ),
     // 268,435,454 ms of sound have more bytes than a file
     (
         &[
             "--at", "--lead", "0", "--kp", "1", "--key", "1", "--gap", "0",
         ],
-        b"{\"at_ms\":268435451,\"entry\":1,\"line\":7,\"outcome\":\"KEYED\",\"sent\":\"5\",\"trunk\":1}",
+        b"{\"at_ms\":268435451,\"entry\":1,\"line\":7,\"outcome\":\"KEYED\",\"sent\":\"5\",\"trunk\":1}\n\
+{\"keyed\":1,\"refused\":0}\n",
         b"mftone: the sound is too long for a WAV file\n",
     ),
     (
         &["--at"],
-        b"{\"at_ms\":18446744073709551615,\"entry\":1,\"line\":7,\"outcome\":\"KEYED\",\"sent\":\"5\",\"trunk\":1}",
+        b"{\"at_ms\":18446744073709551615,\"entry\":1,\"line\":7,\"outcome\":\"KEYED\",\"sent\":\"5\",\"trunk\":1}\n\
+{\"keyed\":1,\"refused\":0}\n",
         b"mftone: the sound is too long for a WAV file\n",
     ),
 ];

@@ -104,13 +104,25 @@ const WORDS: &[(ToneFault, &str)] = &[
         "text line 13 has a refused entry without its reason and heard",
     ),
     (
+        ToneFault::At(AtFault::TextLine(16, LineFault::Totals)),
+        "text line 16 has totals that are not those of the entries",
+    ),
+    (
+        ToneFault::At(AtFault::TextLine(17, LineFault::GoesOn)),
+        "text line 17 has the totals, and text stands after them",
+    ),
+    (
+        ToneFault::At(AtFault::TextLine(18, LineFault::NoTotals)),
+        "text line 18 is missing: the totals of mflive --json end the entries",
+    ),
+    (
         ToneFault::At(AtFault::TextLine(14, LineFault::NoMemory)),
         "text line 14 out of memory",
     ),
     (ToneFault::At(AtFault::NoEntry), "there is no such entry"),
     (
         ToneFault::At(AtFault::Early(15)),
-        "text line 15 has a time before that of the entry before it; --line N takes one line alone",
+        "text line 15 has a time before that of the entry before it: lines have times of their own, --line N takes one",
     ),
     (
         ToneFault::At(AtFault::Untold),

@@ -83,11 +83,11 @@ not_cut program cadence entry next later none order = by (cuts cadence entry nex
         × (lines_of_cuts program cadence (next ∷ later) ≡ [])
     by true is =
         let rest : List ℕ = lines_of_cuts program cadence (next ∷ later) in
-        let line : List ℕ = cut_line program next in
+        let line : List ℕ = cut_line program entry next in
         let told : line ++ rest ≡ [] = ap (λ (xs : List ℕ). xs ++ rest) (sym (cond-true _ _ _ is)) ∙ none in
         let none_left : length (line ++ rest) ≡ 0 = ap length told in
-        let more : length line ≡ length program + length (cut_line [] next) = length-append program (cut_line [] next) in
-        let some : 0 < length (cut_line [] next) = omega arith in
+        let more : length line ≡ length program + length (cut_line [] entry next) = length-append program (cut_line [] entry next) in
+        let some : 0 < length (cut_line [] entry next) = omega arith in
         absurd (omega (arith, none_left, length-append line rest, more, some))
     by false is =
         let rest : List ℕ = lines_of_cuts program cadence (next ∷ later) in (

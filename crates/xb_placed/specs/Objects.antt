@@ -1,5 +1,5 @@
 -- The entry that a text line tells, as `mflive --json` writes it.
-use Rattle.std.specs.Prelude.{ℕ, ◌≡◌, ◌⊎◌, ◌&&◌, ◌||◌, List, [], ◌∷◌, Bool, length, if◌then◌else◌, nat_le, nat_lt, bytes_eq, codes, Option, Some, None, is_some, option_and_then, option_map, Result, Ok, Err}
+use Rattle.std.specs.Prelude.{ℕ, ◌≡◌, ◌⊎◌, List, [], ◌∷◌, length, if◌then◌else◌, nat_le, nat_lt, bytes_eq, codes, Option, Some, None, is_some, option_and_then, option_map, Result, Ok, Err}
 use Rattle.std.specs.Str.{is_utf8}
 use Rattle.serde_json.specs.Data.{Data}
 use Rattle.serde_json.specs.Find.{as_number, as_object, as_str, as_u64, get}
@@ -13,12 +13,14 @@ use Rattle.xb_model.specs.declared.reason.Reason.TheVariants.{Mutilated, Unknown
 use Rattle.xb_model.specs.declared.trunk.TheConstants.{TRUNKS}
 use Rattle.xb_model.specs.Digits.{digit_of_ascii}
 use Rattle.xb_placed.specs.declared.entry.PlacedEntry.{PlacedEntry}
+use Rattle.xb_placed.specs.declared.told.Told.{Told}
+use Rattle.xb_placed.specs.declared.told.Told.TheVariants as told
 use Rattle.xb_placed.specs.declared.fault.LineFault.{LineFault}
 use Rattle.xb_placed.specs.declared.fault.LineFault.TheVariants as fault
 
--- what a text line tells: an entry, or none; or why it is wrong
+-- what a text line tells, or why it is wrong
 abbrev pub Said : Type 0
-Said = Result (Option PlacedEntry) LineFault
+Said = Result Told LineFault
 
 -- a member that is a whole number of 64 bits, and one that is below a number
 abbrev pub whole_in : List ℕ → Data → Option ℕ
@@ -87,35 +89,39 @@ entry_with n place order = record {
 abbrev pub entry_by : ℕ → Option (ℕ × ℕ × ℕ) → Result Order LineFault → Said
 entry_by n place (Err f) = Err f
 entry_by n None (Ok order) = Err fault.NoPlace
-entry_by n (Some place) (Ok order) = Ok (Some (entry_with n place order))
+entry_by n (Some place) (Ok order) = Ok (told.Entry (entry_with n place order))
 
--- an event, or the totals
-abbrev pub is_other : Data → Bool
-is_other value =
-    is_some (get (codes "event") value)
-    || (is_some (get (codes "keyed") value) && is_some (get (codes "refused") value))
+-- the totals of an object: how many entries are keyed, and how many are refused
+abbrev pub totals_in : Data → Option Told
+totals_in value =
+    option_and_then (λ keyed. option_map (λ refused. told.Totals keyed refused)
+    (whole_in (codes "refused") value)) (whole_in (codes "keyed") value)
 
-abbrev pub other : Data → Said
-other value = if is_other value then Ok None else Err fault.NoKind
+abbrev pub or_no_kind : Option Told → Said
+or_no_kind None = Err fault.NoKind
+or_no_kind (Some totals) = Ok totals
 
--- the entry of an object that has an outcome; another one is passed over, if it is an event or the totals
-abbrev pub entry_of_outcome : ℕ → Data → Option (List ℕ) → Said
-entry_of_outcome n value None = other value
-entry_of_outcome n value (Some outcome) = entry_by n (place_in value) (order_in outcome value)
+-- an object that has no outcome is an event or the totals
+abbrev pub other_in : Data → Said
+other_in value = if is_some (get (codes "event") value) then Ok told.Event else or_no_kind (totals_in value)
+
+abbrev pub told_of_outcome : ℕ → Data → Option (List ℕ) → Said
+told_of_outcome n value None = other_in value
+told_of_outcome n value (Some outcome) = entry_by n (place_in value) (order_in outcome value)
 
 -- what text line n tells, by what is read of it
-abbrev pub entry_in : ℕ → Data → Said
-entry_in n value =
-    if is_some (as_object value) then entry_of_outcome n value (text_in (codes "outcome") value) else Err fault.NoObject
+abbrev pub told_in : ℕ → Data → Said
+told_in n value =
+    if is_some (as_object value) then told_of_outcome n value (text_in (codes "outcome") value) else Err fault.NoObject
 
-abbrev pub entry_of_data : ℕ → Option Data → Said
-entry_of_data n None = Err fault.NoObject
-entry_of_data n (Some value) = entry_in n value
+abbrev pub told_of_data : ℕ → Option Data → Said
+told_of_data n None = Err fault.NoObject
+told_of_data n (Some value) = told_in n value
 
 -- what text line n tells
-abbrev pub entry_of_line : ℕ → List ℕ → Said
-entry_of_line n line = entry_of_data n (if is_utf8 line then read line else None)
+abbrev pub told_of_line : ℕ → List ℕ → Said
+told_of_line n line = told_of_data n (if is_utf8 line then read line else None)
 
 -- memory ran out, or it is the fault of the line
 abbrev pub IsFaultOfLine : ℕ → List ℕ → LineFault → Type 0
-IsFaultOfLine n line f = (f ≡ fault.NoMemory) ⊎ (entry_of_line n line ≡ Err f)
+IsFaultOfLine n line f = (f ≡ fault.NoMemory) ⊎ (told_of_line n line ≡ Err f)

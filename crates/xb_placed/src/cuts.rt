@@ -1,4 +1,4 @@
-// Which entries cut the one before them.
+// Which entries are cut by the next one.
 ghost use Rattle.std.specs.Prelude.{◌≡◌, ◌++◌, IfOk, OnOk, option_copied, string_bytes};
 ghost use Rattle.xb_placed.specs.Cuts.{cut_line, cuts, line_between, lines_of_cuts};
 
@@ -13,20 +13,28 @@ fn cuts(cadence: Cadence, before: &PlacedEntry, entry: &PlacedEntry) -> bool
     entry.at_ms.saturating_sub(before.at_ms) < before.sounds_ms(cadence)
 }
 
-// Puts the line of an entry that cuts the one before it after the text.
-fn push_line(text: &mut String, program: &str, entry: &PlacedEntry) -> Result<(), AllocError>
-    ensures { OnOk result (string_bytes text.new ≡ string_bytes text.old ++ cut_line program.now entry.now) }
+// Puts the line of an entry that the next one cuts after the text.
+fn push_line(
+    text: &mut String,
+    program: &str,
+    before: &PlacedEntry,
+    entry: &PlacedEntry,
+) -> Result<(), AllocError>
+    ensures { OnOk result (string_bytes text.new
+        ≡ string_bytes text.old ++ cut_line program.now before.now entry.now) }
 {
-    let line = entry.line.get();
-    let number = entry.number;
+    let number = before.number;
+    let line = before.line.get();
     let at_ms = entry.at_ms;
+    let by = entry.number;
+    let by_line = entry.line.get();
     write!(
         text,
-        "{program}: entry {number} of line {line} cuts the one before it at {at_ms} ms\n"
+        "{program}: entry {number} of line {line} is cut at {at_ms} ms by entry {by} of line {by_line}\n"
     )
 }
 
-// Puts the line of the next entry, if there is one that cuts the one before it, after the text.
+// Puts the line of an entry, if there is a next one that cuts it, after the text.
 fn push_between(
     text: &mut String,
     program: &str,
@@ -38,12 +46,12 @@ fn push_between(
         ≡ string_bytes text.old ++ line_between program.now cadence before.now (option_copied next.entry)) }
 {
     match next {
-        Some(entry) if cuts(cadence, before, entry) => push_line(text, program, entry),
+        Some(entry) if cuts(cadence, before, entry) => push_line(text, program, before, entry),
         _ => Ok(()),
     }
 }
 
-/// A line for each entry that comes before the sound of the one before it has ended, after the program's name. `Err`
+/// A line for each entry whose sound has not ended when the next one comes, after the program's name. `Err`
 /// says that memory ran out.
 pub fn lines_of_cuts(
     alloc: Global,

@@ -5,7 +5,7 @@ use std::alloc::AllocError;
 use thiserror::Error;
 use xb_model::RowFault;
 
-/// Why a text line tells no entry, and may not be passed over.
+/// Why a text line is wrong.
 #[derive(Clone, Copy, Debug, PartialEq, Eq, Error)]
 pub enum LineFault {
     /// It is no JSON object.
@@ -23,6 +23,15 @@ pub enum LineFault {
     /// It has a refused entry, and `reason` or `heard` is missing, or is no such.
     #[error("has a refused entry without its reason and heard")]
     NoRefusal,
+    /// It has the totals, and these are not those of the entries before it.
+    #[error("has totals that are not those of the entries")]
+    Totals,
+    /// It has the totals, and text stands after them.
+    #[error("has the totals, and text stands after them")]
+    GoesOn,
+    /// There is no such text line, and the one before it has no totals.
+    #[error("is missing: the totals of mflive --json end the entries")]
+    NoTotals,
     /// Memory ran out.
     #[error("{}", RowFault::NoMemory)]
     NoMemory,

@@ -1,10 +1,11 @@
-// The entry that a text line tells.
+// What a text line tells.
 ghost use Rattle.std.specs.Prelude.{◌≡◌, ◌<◌, IfErr, IfOk, IfSome, Ok, option_map};
 ghost use Rattle.serde_json.specs.View.{view};
-ghost use Rattle.xb_placed.specs.Objects.{IsFaultOfLine, below_in, digits_of, entry_by, entry_in, entry_of_line, is_other, keyed_in, order_in, place_in, reason_named, refused_in, text_in, whole_in};
+ghost use Rattle.xb_placed.specs.Objects.{IsFaultOfLine, below_in, digits_of, entry_by, keyed_in, order_in, other_in, place_in, reason_named, refused_in, text_in, told_in, told_of_line, totals_in, whole_in};
 
 use crate::entry::PlacedEntry;
 use crate::fault::LineFault;
+use crate::told::Told;
 use serde_json::Value;
 use std::alloc::Global;
 use xb_model::{Digit, KEY_DIGITS, KeyDigits, LINES, LineNo, Order, Reason, TRUNKS, Trunk};
@@ -102,23 +103,34 @@ fn order_in(object: &Value, outcome: &str) -> Result<Order, LineFault>
     }
 }
 
-// Whether an object is one of an event, or the totals.
-fn is_other(object: &Value) -> bool
-    ensures { result ≡ is_other (view object.now) }
+// The totals of an object.
+fn totals_in(object: &Value) -> Option<Told>
+    ensures { result ≡ totals_in (view object.now) }
 {
-    object.get("event").is_some()
-        || (object.get("keyed").is_some() && object.get("refused").is_some())
+    let keyed = whole_in(object, "keyed")?;
+    let refused = whole_in(object, "refused")?;
+    Some(Told::Totals(keyed, refused))
+}
+
+// What an object tells that has no outcome.
+fn other_in(object: &Value) -> Result<Told, LineFault>
+    ensures { result ≡ other_in (view object.now) }
+{
+    if object.get("event").is_some() {
+        return Ok(Told::Event);
+    }
+    totals_in(object).ok_or(LineFault::NoKind)
 }
 
 // The entry of an outcome that text line `number` has.
-fn entry_by(number: u64, object: &Value, outcome: &str) -> Result<Option<PlacedEntry>, LineFault>
+fn entry_by(number: u64, object: &Value, outcome: &str) -> Result<Told, LineFault>
     ensures { result ≡ entry_by number (place_in (view object.now)) (order_in outcome.now (view object.now)) }
 {
     let order = order_in(object, outcome)?;
     let Some((line, entry, at_ms)) = place_in(object) else {
         return Err(LineFault::NoPlace);
     };
-    Ok(Some(PlacedEntry {
+    Ok(Told::Entry(PlacedEntry {
         line,
         number: entry,
         at_ms,
@@ -127,27 +139,22 @@ fn entry_by(number: u64, object: &Value, outcome: &str) -> Result<Option<PlacedE
     }))
 }
 
-// The entry of the object of text line `number`: of an event, and of the totals, none.
-fn entry_in(number: u64, object: &Value) -> Result<Option<PlacedEntry>, LineFault>
-    ensures { result ≡ entry_in number (view object.now) }
+// What the object of text line `number` tells.
+fn told_in(number: u64, object: &Value) -> Result<Told, LineFault>
+    ensures { result ≡ told_in number (view object.now) }
 {
     if !object.is_object() {
         return Err(LineFault::NoObject);
     }
     match text_in(object, "outcome") {
         Some(outcome) => entry_by(number, object, outcome),
-        None if is_other(object) => Ok(None),
-        None => Err(LineFault::NoKind),
+        None => other_in(object),
     }
 }
 
-/// The entry that text line `number` tells, as `mflive --json` writes it. Of an event, and of the totals, it is `None`.
-pub(crate) fn entry_of_line(
-    alloc: Global,
-    number: u64,
-    line: &[u8],
-) -> Result<Option<PlacedEntry>, LineFault>
-    ensures entry { IfOk result (λ entry. entry_of_line number line.now ≡ Ok entry) }
+/// What text line `number` tells, as `mflive --json` writes it.
+pub(crate) fn told_of_line(alloc: Global, number: u64, line: &[u8]) -> Result<Told, LineFault>
+    ensures told { IfOk result (λ told. told_of_line number line.now ≡ Ok told) }
     ensures fault { IfErr result (IsFaultOfLine number line.now) }
 {
     let object = match Value::from_slice(alloc, line) {
@@ -155,5 +162,5 @@ pub(crate) fn entry_of_line(
         Err(error) if error.is_memory() => return Err(LineFault::NoMemory),
         Err(_) => return Err(LineFault::NoObject),
     };
-    entry_in(number, &object)
+    told_in(number, &object)
 }

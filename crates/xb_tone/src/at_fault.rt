@@ -12,14 +12,14 @@ pub enum AtFault {
     /// They have more than 67,108,864 bytes.
     #[error("the entries are longer than 67108864 bytes")]
     TooLong,
-    /// This text line, from 1, tells no entry, and may not be passed over.
+    /// This text line, from 1, is the first that is wrong; the one after the last where the totals are missing.
     #[error("text line {0} {1}")]
     TextLine(u64, LineFault),
     /// There is no entry that was asked for.
     #[error("there is no such entry")]
     NoEntry,
     /// The entry of this text line has a time before that of the entry before it.
-    #[error("text line {0} has a time before that of the entry before it; --line N takes one line alone")]
+    #[error("text line {0} has a time before that of the entry before it: lines have times of their own, --line N takes one")]
     Early(u64),
     /// The lines of the entries that cut the one before them could not be written.
     #[error("what is cut could not be told")]

@@ -7,9 +7,12 @@ pub returns : goal.returns
 returns c =
     let old : List ℕ = string_bytes c.args.text.now in
     let new : List ℕ = string_bytes c.write.new.self in
-    let text : ℕ → List ℕ = λ line. old ++ (c.args.program.now ++ (codes ": entry " ++ (decimal c.args.entry.now.number
-    ++ (codes " of line " ++ (decimal line ++ (codes " cuts the one before it at " ++ (decimal c.args.entry.now.at_ms
-    ++ codes " ms\n"))))))) in
-    let written : OnOk c.write.result (new ≡ text c.get-line.result) = c.write.ensures.bytes in
-    let same : text c.get-line.result ≡ text c.args.entry.now.line = ap text c.get-line.ensures.value in
-    on_ok_weaker c.write.result (λ (is : new ≡ text c.get-line.result). is ∙ same) written
+    let text : ℕ → ℕ → List ℕ = λ line by. old ++ (c.args.program.now ++ (codes ": entry "
+    ++ (decimal c.args.before.now.number ++ (codes " of line " ++ (decimal line ++ (codes " is cut at "
+    ++ (decimal c.args.entry.now.at_ms ++ (codes " ms by entry " ++ (decimal c.args.entry.now.number
+    ++ (codes " of line " ++ (decimal by ++ codes "\n"))))))))))) in
+    let written : OnOk c.write.result (new ≡ text c.get-line.result c.get-by_line.result) = c.write.ensures.bytes in
+    let same : text c.get-line.result c.get-by_line.result ≡ text c.args.before.now.line c.args.entry.now.line =
+    ap (λ line. text line c.get-by_line.result) c.get-line.ensures.value
+    ∙ ap (text c.args.before.now.line) c.get-by_line.ensures.value in
+    on_ok_weaker c.write.result (λ (is : new ≡ text c.get-line.result c.get-by_line.result). is ∙ same) written

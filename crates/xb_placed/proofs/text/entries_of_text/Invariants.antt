@@ -2,14 +2,12 @@ use Rattle.std.proofs.Common.{◌≡◌, ◌+◌, ◌≤◌, length}
 use Rattle.std.specs.Prelude.{option_copied}
 use Rattle.xb_text.specs.Pieces.{pieces_left}
 use Rattle.xb_placed.specs.Texts.{entries_from, entries_of_text}
-use Rattle.xb_placed.proofs.Readings.{after}
 use Rattle.xb_placed.proofs.text.entries_of_text.Given as goal
 
 abbrev pub invariant-loop-left : goal.invariant-loop-left
 invariant-loop-left l = record {
   entries :
-      entries_of_text l.fn.text
-      ≡ after l.entries.items (entries_from l.number (pieces_left 10 (option_copied l.left)));
+      entries_of_text l.fn.text ≡ entries_from l.number l.entries.items (pieces_left 10 (option_copied l.left));
   lines : l.number + length (pieces_left 10 (option_copied l.left)) ≤ length l.fn.text + 2;
 }
 
