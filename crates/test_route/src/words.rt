@@ -1,8 +1,8 @@
 // The words of each fault that is not among the statuses, as the table of faults has them.
 use std::io::{self, ErrorKind};
 use std::test::Fail;
-use xb_route::{NumberFault, RoutingFault};
 use xb_outgoing::OutgoingFault;
+use xb_route::{NumberFault, RoutingFault};
 use xb_routes::RouteFault;
 
 #[test]
