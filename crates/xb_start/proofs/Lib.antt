@@ -1,0 +1,4 @@
+pub mod Rows
+pub mod Settlements
+pub mod Winks
+pub mod Promises
