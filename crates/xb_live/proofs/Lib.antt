@@ -24,7 +24,9 @@ pub mod ObjectValues
 pub mod SentDigits
 pub mod ObjectLines
 pub mod AscendingTimes
+pub mod StartedRows
 pub mod SoundedRows
 pub mod SoundedRuns
 pub mod SoundedDecks
 pub mod LineHeard
+pub mod Noted

@@ -34,7 +34,7 @@ use Rattle.xb_trunk.specs.Laws.{marks_of}
 use Rattle.xb_trunk.proofs.HeardCalls.{keyed-split, keys_are_heard}
 use Rattle.xb_live.specs.Entries.{Entry, entries_of_rows}
 use Rattle.xb_live.specs.LineHeard.{LineIsHeard}
-use Rattle.xb_live.specs.Sounding.{marks_by, steps_after, steps_in, steps_of}
+use Rattle.xb_live.specs.Steps.{marks_by, steps_after, steps_in, steps_of}
 use Rattle.xb_live.proofs.Completed.{dialled_of, entries-dialled, entry_from, marks-dialled}
 use Rattle.xb_live.proofs.LineEntries.{keying, of_line-marks}
 use Rattle.xb_live.proofs.SoundedRows.{steps-cons, steps-none}

@@ -18,6 +18,8 @@ pub mod Pages
 pub mod Decks
 pub mod Faults
 pub mod Runs
+pub mod Steps
+pub mod Starting
 pub mod Sounding
 pub mod SoundedDecks
 pub mod LineHeard

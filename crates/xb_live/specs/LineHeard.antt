@@ -11,7 +11,7 @@ use Rattle.xb_sound.specs.Cadences.{IsSetApart}
 use Rattle.xb_sound.specs.HeardKeys.{IsHeard}
 use Rattle.xb_sound.specs.HeardTapes.{HavePrefixes}
 use Rattle.xb_trunk.specs.Sounded.{whole_sound}
-use Rattle.xb_live.specs.Sounding.{steps_of}
+use Rattle.xb_live.specs.Steps.{steps_of}
 
 -- of the sound of rows just the keys are heard that the line's rows so far are keyed as; and once the line is closed,
 -- those of its tape

@@ -1,5 +1,5 @@
 -- What the words of the command line ask for, as clap reads them.
-use Rattle.std.specs.Prelude.{ℕ, ◌||◌, List, [], ◌∷◌, codes, Bool, true, false, Option, Some, None, if◌then◌else◌, is_some, min, nat_lt, option_map}
+use Rattle.std.specs.Prelude.{ℕ, ◌==◌, ◌||◌, List, [], ◌∷◌, codes, Bool, true, false, Option, Some, None, if◌then◌else◌, is_some, min, nat_lt, option_map}
 use Rattle.clap.specs.Simple.{App}
 use Rattle.clap.specs.Walk.{Row, Text, first_of}
 use Rattle.jiff_core.specs.declared.timestamp.Timestamp.{Timestamp}
@@ -24,17 +24,18 @@ abbrev pub command_of_words : App
 command_of_words =
     command_of (codes "mflive")
     ((codes "events", takes.Nothing) ∷ (codes "json", takes.Nothing) ∷ (codes "marks", takes.Nothing)
-    ∷ (codes "since", takes.Text) ∷ (codes "sound", takes.Number) ∷ (codes "lead", takes.Number)
-    ∷ (codes "kp", takes.Number) ∷ (codes "key", takes.Number) ∷ (codes "gap", takes.Number) ∷ [])
+    ∷ (codes "since", takes.Text) ∷ (codes "sound", takes.Number) ∷ (codes "start", takes.Number)
+    ∷ (codes "lead", takes.Number) ∷ (codes "kp", takes.Number) ∷ (codes "key", takes.Number) ∷ (codes "gap", takes.Number) ∷ [])
 
 -- what clap matched says whether events are printed, whether JSON is, whether marks are printed by themselves, the
--- time that the ms are counted from, the line that sounds, and the times of its keys
+-- time that the ms are counted from, the line that sounds, the one whose winks are its starts, and the times of keys
 pub record Say (rows : List Row) (options : Options) : Type 0 where
   pub events : ReadsFlag (given_by rows (codes "events")) options.events
   pub json : ReadsFlag (given_by rows (codes "json")) options.json
   pub marks : ReadsFlag (given_by rows (codes "marks")) options.marks
   pub since : ReadsSince (first_of (codes "since") rows) options.since
   pub sound : ReadsNumber (given_by rows (codes "sound")) options.sound
+  pub start : ReadsNumber (given_by rows (codes "start")) options.start
   pub lead_ms : ReadsNumber (given_by rows (codes "lead")) options.lead_ms
   pub kp_ms : ReadsNumber (given_by rows (codes "kp")) options.kp_ms
   pub key_ms : ReadsNumber (given_by rows (codes "key")) options.key_ms
@@ -70,10 +71,10 @@ is_given since.NoTime = true
 abbrev pub asks_entries : Options → Bool
 asks_entries options = options.events || options.json || options.marks || is_given options.since
 
--- whether they say how calls are keyed
-abbrev pub has_cadence : Options → Bool
-has_cadence options =
-    is_some options.lead_ms || is_some options.kp_ms || is_some options.key_ms || is_some options.gap_ms
+-- whether they say when or how calls are keyed
+abbrev pub goes_with_sound : Options → Bool
+goes_with_sound options = is_some options.start || is_some options.lead_ms || is_some options.kp_ms
+    || is_some options.key_ms || is_some options.gap_ms
 
 -- a time that is given, up to the longest that is told apart, or else that of the standard
 abbrev pub time_of : Option ℕ → ℕ → ℕ
@@ -93,14 +94,30 @@ cadence_of options = record {
 abbrev pub line_of : ℕ → Option ℕ
 line_of number = if nat_lt number LINES then Some number else None
 
--- what the options ask for, by the line that sounds: where there is none, entries, and no cadence is said; where there
--- is one, its sound, and nothing is said of entries
+-- the line whose winks are the starts of a line, where one is asked for: another line of the office
+abbrev pub start_of : Option ℕ → ℕ → Option (Option ℕ)
+start_of None line = Some None
+start_of (Some number) line =
+    if nat_lt number LINES then (if number == line then None else Some (Some number)) else None
+
+-- the sound of a line, and of one whose calls wait for the winks of another
+abbrev pub sound_with : ℕ → Cadence → Option ℕ → Request
+sound_with line cadence None = request.Sound line cadence
+sound_with line cadence (Some start) = request.StartedSound line start cadence
+
+-- where it and its start line are lines of the office
+abbrev pub sound_by : Options → Option ℕ → Option Request
+sound_by options None = None
+sound_by options (Some line) =
+    option_map (sound_with line (cadence_of options)) (start_of options.start line)
+
+-- what the options ask for, by the line that sounds: where there is none, entries, and no start and no cadence is said;
+-- where there is one, its sound, and nothing is said of entries
 abbrev pub request_by : Options → Option ℕ → Option Request
 request_by options None =
-    if has_cadence options then None else option_map (λ form. request.Entries form) (form_of options)
+    if goes_with_sound options then None else option_map (λ form. request.Entries form) (form_of options)
 request_by options (Some number) =
-    if asks_entries options then None
-    else option_map (λ line. request.Sound line (cadence_of options)) (line_of number)
+    if asks_entries options then None else sound_by options (line_of number)
 
 abbrev pub request_of : Options → Option Request
 request_of options = request_by options options.sound
@@ -110,6 +127,7 @@ abbrev pub Asks : List Text → Request → Type 0
 Asks words asked = AsksFor command_of_words Say request_of words asked
 
 -- clap refuses the words, or they ask for nothing: a word that is no time, a time without objects, a line that there is
--- not, options of entries beside a line that sounds, or times of keys without one
+-- not, a start line that is the line that sounds, options of entries beside a line that sounds, or a start line or
+-- times of keys without one
 abbrev pub AreRefused : List Text → Type 0
 AreRefused words = AskForNothing command_of_words Say request_of words

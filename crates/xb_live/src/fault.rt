@@ -75,6 +75,17 @@ pub enum LiveFault {
     Sound(TrunkFault),
 }
 
+/// Why it is not told how many keyings were given up.
+#[derive(Clone, Copy, Debug, PartialEq, Eq, Error)]
+pub(crate) enum NoteFault {
+    /// A write or the flush failed, or a write took no byte.
+    #[error("how many keyings were given up could not be told")]
+    Write,
+    /// Memory ran out.
+    #[error("{}", RowFault::NoMemory)]
+    NoMemory,
+}
+
 impl From<CadenceFault> for LiveFault {
     ghost use Rattle.xb_live.specs.declared.fault.LiveFault.TheVariants.{Cadence};
 

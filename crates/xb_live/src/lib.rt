@@ -35,6 +35,7 @@ mod program;
 mod request;
 mod running;
 mod sounding;
+mod starting;
 mod words;
 mod writing;
 

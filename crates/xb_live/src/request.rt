@@ -10,4 +10,6 @@ pub(crate) enum Request {
     Entries(EntryForm),
     /// The sound of this line's trunk, whose calls are keyed by this cadence.
     Sound(LineNo, Cadence),
+    /// That of the first line, each of whose calls is keyed once a wink of the second one came.
+    StartedSound(LineNo, LineNo, Cadence),
 }

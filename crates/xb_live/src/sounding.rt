@@ -1,16 +1,18 @@
 // From a deck as it comes to the sound of a line's trunk.
-ghost use Rattle.std.specs.Prelude.{◌≡◌, ◌<◌, ◌≤◌, ◌+◌, ℕ, [], ◌∷◌, ◌++◌, List, Option, Err};
+ghost use Rattle.std.specs.Prelude.{◌≡◌, ◌<◌, ◌≤◌, ◌+◌, ℕ, [], ◌∷◌, ◌++◌, List, Option, Err, OnOk};
 ghost use Rattle.xb_model.specs.Rows.{LoopRow};
 ghost use Rattle.xb_sound.specs.declared.cadence.Cadence.{Cadence};
 ghost use Rattle.xb_sound.specs.declared.cadence.CadenceFault.{CadenceFault};
 ghost use Rattle.xb_live.specs.Counting.{HasCounted};
 ghost use Rattle.xb_live.specs.SoundedDecks.{JudgesCadence, SoundsDeck, SoundsRows};
 ghost use Rattle.xb_live.specs.Sounding.{HasSounded, Sounds};
+ghost use Rattle.xb_live.specs.Starting.{Asked, GrowsByRow, HasRoom, asked_of, started_of};
 ghost use Rattle.xb_live.specs.declared.counting.TheConstants.{MOST_ENTRIES};
 
 use crate::counting::Counting;
 use crate::fault::LiveFault;
 use crate::running::{MOST_ROWS, rows_after};
+use crate::starting::Starting;
 use std::alloc::Global;
 use std::io::{Read, Write};
 use xb_deck::{MOST_DECK_BYTES, read_table};
@@ -26,21 +28,28 @@ fn sound_row<W: Write>(
     alloc: Global,
     line: LineNo,
     office: &mut Counting,
+    starting: &mut Starting,
     trunk: &mut Trunk,
     row: Row,
     out: &mut W,
 ) -> Result<(), TrunkFault>
-    requires { office.old.keyed + office.old.refused < MOST_ENTRIES }
-    ensures sounds { (cadence : Cadence) (rows : List LoopRow) (start : Option (List ℕ)) →
-        HasSounded line cadence office.old trunk.old rows start (W.contents out.old) →
-        Sounds line cadence office.new trunk.new (rows ++ row ∷ []) result start (W.contents out.new) }
+    requires few { office.old.keyed + office.old.refused < MOST_ENTRIES }
+    requires room { HasRoom starting.old }
+    ensures sounds { (asked : Asked) (cadence : Cadence) (rows : List LoopRow) (start : Option (List ℕ)) →
+        asked.line ≡ line →
+        HasSounded asked cadence office.old starting.old trunk.old rows start (W.contents out.old) →
+        Sounds asked cadence office.new starting.new trunk.new (rows ++ row ∷ []) result start
+        (W.contents out.new) }
+    ensures grows { OnOk result (GrowsByRow starting.old starting.new) }
     ensures one { office.new.keyed + office.new.refused ≤ office.old.keyed + office.old.refused + 1 }
     ensures table { office.new.live.table ≡ office.old.live.table }
 {
     office.take(row);
     if row.line() == line {
-        trunk.take_row(alloc, out, row.ms(), office.entry())
+        let marks = starting.take_clock_row(alloc, row.ms(), office.entry())?;
+        trunk.take_row(alloc, out, row.ms(), &marks)
     } else {
+        starting.take_other_row(row);
         Ok(())
     }
 }
@@ -50,22 +59,24 @@ fn sound_rows<R: Read, W: Write>(
     alloc: Global,
     line: LineNo,
     office: &mut Counting,
+    starting: &mut Starting,
     trunk: &mut Trunk,
     rows: &mut RowReader<R>,
     out: &mut W,
-) -> Result<(), LiveFault>
+) -> Result<u128, LiveFault>
     requires fresh { HasCounted office.old [] }
+    requires started { starting.old ≡ started_of starting.old.start }
     requires silent { trunk.old.waiting ≡ [] }
     requires none { office.old.keyed + office.old.refused ≡ 0 }
-    ensures { SoundsRows line trunk.old.cadence office.old.live.table rows.old result
-        (W.contents out.old) (W.contents out.new) }
+    ensures { SoundsRows (asked_of line starting.old.start) trunk.old.cadence office.old.live.table rows.old
+        result (W.contents out.old) (W.contents out.new) }
 {
     for _ in 0..MOST_ROWS {
         match rows.next_row()? {
-            Some(row) => sound_row(alloc, line, office, trunk, row, out)?,
+            Some(row) => sound_row(alloc, line, office, starting, trunk, row, out)?,
             None => {
                 trunk.write_rest(alloc, out)?;
-                return Ok(());
+                return Ok(starting.given_up());
             }
         }
     }
@@ -86,12 +97,13 @@ fn sound_rows<R: Read, W: Write>(
 pub fn sound_deck<R: Read, W: Write>(
     alloc: Global,
     line: LineNo,
+    start: Option<LineNo>,
     cadence: Cadence,
     deck: &mut R,
     out: &mut W,
-) -> Result<(), LiveFault>
+) -> Result<u128, LiveFault>
     ensures judged { JudgesCadence cadence result }
-    ensures sounds { SoundsDeck line cadence (R.remaining deck.old) result
+    ensures sounds { SoundsDeck (asked_of line start) cadence (R.remaining deck.old) result
         (W.contents out.old) (W.contents out.new) }
     ensures unread { (fault : CadenceFault) → result ≡ Err (LiveFault.Cadence fault) →
         R.remaining deck.new ≡ R.remaining deck.old }
@@ -100,7 +112,16 @@ pub fn sound_deck<R: Read, W: Write>(
     let text = read_table(alloc, deck, MOST_DECK_BYTES)?;
     let table = RouteTable::read(alloc, &text)?;
     let mut office = Counting::new(alloc, table)?;
+    let mut starting = Starting::new(alloc, start);
     let mut trunk = Trunk::new(alloc, cadence);
     let mut rows = rows_after(deck);
-    sound_rows(alloc, line, &mut office, &mut trunk, &mut rows, out)
+    sound_rows(
+        alloc,
+        line,
+        &mut office,
+        &mut starting,
+        &mut trunk,
+        &mut rows,
+        out,
+    )
 }

@@ -1,7 +1,7 @@
 // What the words of the command line ask for.
 ghost use Rattle.std.specs.Prelude.{◌≡◌, IfErr, IfOk};
 ghost use Rattle.xb_command.specs.Commands.{texts_of};
-ghost use Rattle.xb_live.specs.Options.{AreRefused, Asks, Say, asks_entries, cadence_of, form_of, form_with_events, has_cadence, line_of, objects_since, request_of, time_of};
+ghost use Rattle.xb_live.specs.Options.{AreRefused, Asks, Say, asks_entries, cadence_of, form_of, form_with_events, goes_with_sound, line_of, objects_since, request_of, start_of, time_of};
 
 use crate::printing::EntryForm;
 use crate::program::PROGRAM;
@@ -21,6 +21,7 @@ pub(crate) struct Options {
     pub(crate) marks: bool,
     pub(crate) since: Since,
     pub(crate) sound: Option<u32>,
+    pub(crate) start: Option<u32>,
     pub(crate) lead_ms: Option<u32>,
     pub(crate) kp_ms: Option<u32>,
     pub(crate) key_ms: Option<u32>,
@@ -28,12 +29,13 @@ pub(crate) struct Options {
 }
 
 // The options of the program, each under its name.
-const OPTIONS: [(&str, Takes); 9] = [
+const OPTIONS: [(&str, Takes); 10] = [
     ("events", Takes::Nothing),
     ("json", Takes::Nothing),
     ("marks", Takes::Nothing),
     ("since", Takes::Text),
     ("sound", Takes::Number),
+    ("start", Takes::Number),
     ("lead", Takes::Number),
     ("kp", Takes::Number),
     ("key", Takes::Number),
@@ -50,6 +52,7 @@ fn options_of(words: &Words) -> Options
         marks: words.flag("marks"),
         since: since_of(words.text("since")),
         sound: words.number("sound"),
+        start: words.number("start"),
         lead_ms: words.number("lead"),
         kp_ms: words.number("kp"),
         key_ms: words.number("key"),
@@ -119,11 +122,12 @@ fn asks_entries(options: Options) -> bool
     options.events || options.json || options.marks || since
 }
 
-// Whether the options say how calls are keyed.
-fn has_cadence(options: Options) -> bool
-    ensures { result ≡ has_cadence options }
+// Whether the options say when or how calls are keyed.
+fn goes_with_sound(options: Options) -> bool
+    ensures { result ≡ goes_with_sound options }
 {
-    options.lead_ms.is_some()
+    options.start.is_some()
+        || options.lead_ms.is_some()
         || options.kp_ms.is_some()
         || options.key_ms.is_some()
         || options.gap_ms.is_some()
@@ -163,6 +167,21 @@ fn line_of(number: u32) -> Option<LineNo>
     }
 }
 
+// The line whose winks are the starts of a line, if one is asked for; nothing where there is no such other line.
+fn start_of(given: Option<u32>, line: LineNo) -> Option<Option<LineNo>>
+    ensures { result ≡ start_of given line }
+{
+    let Some(number) = given else {
+        return Some(None);
+    };
+    let start = line_of(number)?;
+    if start == line {
+        None
+    } else {
+        Some(Some(start))
+    }
+}
+
 // What the options ask for: the sound of a line, or entries. `None` where they name no line of the office, or say also
 // what goes with the other.
 fn request_of(options: Options) -> Option<Request>
@@ -172,9 +191,12 @@ fn request_of(options: Options) -> Option<Request>
         Some(_) if asks_entries(options) => None,
         Some(number) => {
             let line = line_of(number)?;
-            Some(Request::Sound(line, cadence_of(options)))
+            match start_of(options.start, line)? {
+                None => Some(Request::Sound(line, cadence_of(options))),
+                Some(start) => Some(Request::StartedSound(line, start, cadence_of(options))),
+            }
         }
-        None if has_cadence(options) => None,
+        None if goes_with_sound(options) => None,
         None => {
             let form = form_of(options)?;
             Some(Request::Entries(form))

@@ -34,6 +34,7 @@ pub enum Fate {
 }
 
 /// What is settled with the end of a row of the clock.
+#[derive(Drop)]
 pub struct Settled {
     /// What becomes of the keying that waits first.
     pub fate: Fate,
