@@ -20,6 +20,7 @@ mod records;
 mod rows;
 #[cfg(test)]
 mod sounded;
+mod started;
 #[cfg(test)]
 mod statuses;
 #[cfg(test)]
