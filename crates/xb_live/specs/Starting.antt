@@ -17,7 +17,8 @@ call_in marks = if is_refused marks then [] else marks
 
 -- a row of the line is one of the clock, and one of the start line is one of the lead
 abbrev pub events_in : Table → ℕ → ℕ → List LoopRow → LoopRow → List Event
-events_in table line start earlier row = if row.line == line then clock row.ms (call_in (marks_by table earlier row)) ∷ []
+events_in table line start earlier row =
+    if row.line == line then clock row.ms (call_in (marks_by table earlier row)) ∷ []
     else if row.line == start then lead row.contact row.ms ∷ [] else []
 
 -- those of rows that come after earlier ones
