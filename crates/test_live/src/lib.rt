@@ -20,6 +20,7 @@ mod records;
 mod rows;
 #[cfg(test)]
 mod sounded;
+#[cfg(test)]
 mod started;
 #[cfg(test)]
 mod statuses;

@@ -57,9 +57,7 @@ fn sounding_line(request: &Request) -> Option<u16>
 fn note_line(alloc: Global, line: u16, given_up: u128) -> Result<String, AllocError>
     ensures { IfOk result (λ note. string_bytes note ≡ note_line line given_up) }
 {
-    format!(in alloc;
-        "mflive: keyings of line {line} given up for want of a start: {given_up}\n"
-    )
+    format!(in alloc; "mflive: keyings of line {line} given up for want of a start: {given_up}\n")
 }
 
 // What is told of keyings that were given up.
