@@ -21,6 +21,8 @@ mod rows;
 #[cfg(test)]
 mod sounded;
 #[cfg(test)]
+mod started;
+#[cfg(test)]
 mod statuses;
 #[cfg(test)]
 mod structs;

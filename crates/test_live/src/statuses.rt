@@ -31,7 +31,7 @@ impl Program for Mflive {
 
 const USAGE: &[u8] =
     b"mflive: usage: mflive [--json [--since TIME]] [--marks] [--events [--since TIME]] \
-[--sound N [--lead N] [--kp N] [--key N] [--gap N]]\n";
+[--sound N [--start M] [--lead N] [--kp N] [--key N] [--gap N]]\n";
 
 // The words after the program's name, the parts of the deck, the status, the parts of what is printed, and
 // what stands on standard error.
@@ -161,6 +161,21 @@ const OF_SOUND: &[Case] = &[
         b"mflive: the deck has no line ---\n",
     ),
     (&["--sound", "10000"], &[BEGINNING], 2, &[], USAGE),
+    (&["--start", "8"], &[BEGINNING], 2, &[], USAGE),
+    (
+        &["--sound", "7", "--start", "7"],
+        &[BEGINNING],
+        2,
+        &[],
+        USAGE,
+    ),
+    (
+        &["--sound", "7", "--start", "10000"],
+        &[BEGINNING],
+        2,
+        &[],
+        USAGE,
+    ),
     (&["--sound", "7", "--json"], &[BEGINNING], 2, &[], USAGE),
     (&["--sound", "7", "--marks"], &[BEGINNING], 2, &[], USAGE),
     (&["--sound", "7", "--events"], &[BEGINNING], 2, &[], USAGE),

@@ -1,12 +1,11 @@
 -- The rows of a line whose keyings wait for starts, one after another.
-use Rattle.std.proofs.Common.{◌≡◌, ℕ, ◌+◌, true, false, Bool, List, [], ◌∷◌, ◌++◌, length, Option, Some, None, refl, sym, ap, ◌∙◌, subst, append_assoc, append-nil, arith}
+use Rattle.std.proofs.Common.{◌≡◌, ℕ, ◌+◌, true, false, Bool, List, [], ◌∷◌, ◌++◌, Option, Some, refl, sym, ap, ◌∙◌, append_assoc, append-nil, arith}
 use Rattle.std.specs.Prelude.{◌==◌, if◌then◌else◌, cond, count_by, fold, nat_le}
 use Rattle.std.proofs.lemmas.List.Sums.{fold-append, sum_by-append}
 use Rattle.xb_model.specs.declared.mark.Mark.{Mark}
 use Rattle.xb_model.specs.Rows.{LoopRow}
 use Rattle.xb_routes.specs.Table.{Table}
-use Rattle.xb_start.specs.declared.dial.Fate.{Fate}
-use Rattle.xb_start.specs.declared.dial.Fate.TheVariants.{Idle, Waits, Keyed, GivenUp}
+use Rattle.xb_start.specs.declared.dial.Fate.TheVariants.{Waits, Keyed, GivenUp}
 use Rattle.xb_start.specs.declared.dial.TheConstants.{LONGEST_WAIT}
 use Rattle.xb_start.specs.Laws.{Settlement, settled_from, settled_in, settlement_of}
 use Rattle.xb_start.specs.Starts.{Dial, Event, clock, lead, after, after_clock, dial_after, fate_at, is_ready, no_dial}

@@ -25,7 +25,8 @@ command_of_words =
     command_of (codes "mflive")
     ((codes "events", takes.Nothing) ∷ (codes "json", takes.Nothing) ∷ (codes "marks", takes.Nothing)
     ∷ (codes "since", takes.Text) ∷ (codes "sound", takes.Number) ∷ (codes "start", takes.Number)
-    ∷ (codes "lead", takes.Number) ∷ (codes "kp", takes.Number) ∷ (codes "key", takes.Number) ∷ (codes "gap", takes.Number) ∷ [])
+    ∷ (codes "lead", takes.Number) ∷ (codes "kp", takes.Number) ∷ (codes "key", takes.Number)
+    ∷ (codes "gap", takes.Number) ∷ [])
 
 -- what clap matched says whether events are printed, whether JSON is, whether marks are printed by themselves, the
 -- time that the ms are counted from, the line that sounds, the one whose winks are its starts, and the times of keys

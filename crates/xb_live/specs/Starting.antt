@@ -1,11 +1,11 @@
 -- A line whose keyings wait for the starts of another one, row by row.
-use Rattle.std.specs.Prelude.{◌<◌, ◌≤◌, ◌+◌, ◌-◌, ◌^◌, ◌==◌, ℕ, Bool, true, false, List, [], ◌∷◌, ◌++◌, length, count_by, Option, Some, None, fold, if◌then◌else◌}
+use Rattle.std.specs.Prelude.{◌<◌, ◌≤◌, ◌+◌, ◌-◌, ◌^◌, ◌==◌, ℕ, Bool, true, false, List, [], ◌∷◌, ◌++◌, length, count_by, Option, Some, None, if◌then◌else◌}
 use Rattle.xb_model.specs.declared.mark.Mark.{Mark}
 use Rattle.xb_model.specs.Page.{is_refused}
 use Rattle.xb_model.specs.Rows.{LoopRow}
 use Rattle.xb_routes.specs.Table.{Table}
 use Rattle.xb_start.specs.declared.dial.Fate.{Fate}
-use Rattle.xb_start.specs.declared.dial.Fate.TheVariants.{Idle, Waits, Keyed, GivenUp}
+use Rattle.xb_start.specs.declared.dial.Fate.TheVariants.{Keyed, GivenUp}
 use Rattle.xb_start.specs.Laws.{Settlement, settled_from}
 use Rattle.xb_start.specs.Starts.{Dial, Event, clock, lead, after, after_clock, after_lead, dial_after, fate_at, first_of, no_dial}
 use Rattle.xb_trunk.specs.Sounded.{Step, step_of}
@@ -17,7 +17,8 @@ call_in marks = if is_refused marks then [] else marks
 
 -- a row of the line is one of the clock, and one of the start line is one of the lead
 abbrev pub events_in : Table → ℕ → ℕ → List LoopRow → LoopRow → List Event
-events_in table line start earlier row = if row.line == line then clock row.ms (call_in (marks_by table earlier row)) ∷ []
+events_in table line start earlier row =
+    if row.line == line then clock row.ms (call_in (marks_by table earlier row)) ∷ []
     else if row.line == start then lead row.contact row.ms ∷ [] else []
 
 -- those of rows that come after earlier ones

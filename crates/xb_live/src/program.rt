@@ -92,8 +92,8 @@ fn tell_note<E: Write>(alloc: Global, err: &mut E, line: Option<u16>, given_up: 
 /// process:
 ///
 /// - `DONE`: the deck was read to its end, `out` got exactly the entries of its rows and the totals, or the samples
-///   of the rows of the line and what waits after them, and `err` one line of how many keyings were given up for want of
-///   a start, where any were;
+///   of the rows of the line and what waits after them, and `err` one line of how many keyings were given up for want
+///   of a start, where any were;
 /// - `FAULT`: `run_deck` or `sound_deck` has a fault, or memory ran out while the words were read; `err` gets the fault
 ///   as one line, and `out` got the entries, or the samples, before it; or all was written, and how many keyings were
 ///   given up could not be told;

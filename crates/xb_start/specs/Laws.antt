@@ -27,7 +27,7 @@ abbrev pub NoKeyWithoutWink : Type 0
 NoKeyWithoutWink = (events : List Event) (ms : ℕ) → fate_after events ms ≡ Keyed
     → HasItsWink events (first_after events) (time_of events + ms)
 
--- of the rows since a moment of the clock, none ended a wink long enough before now that began at that moment or after it
+-- of the rows since a moment of the clock, none ended a wink long enough before now that began at that moment or later
 abbrev pub NoWink : List Event → List Event → ℕ → Type 0
 NoWink earlier later now = (first : List Run) (row : Run) (more : List Run) → leads later ≡ first ++ row ∷ more
     → EndsWink (leads earlier ++ first) row (time_of earlier)

@@ -12,8 +12,8 @@ pub data Event : Type 0 where
   lead : Contact → ℕ → Event
   clock : ℕ → List Mark → Event
 
--- how long the rows of the lead last, and the makes that they end with; how long those of the clock last; since when the
--- first keying waits, and when the first wink ended that began since then; the keyings that wait, in order
+-- how long the rows of the lead last, and the makes that they end with; how long those of the clock last; since when
+-- the first keying waits, and when the first wink ended that began since then; the keyings that wait, in order
 pub record Dial : Type 0 where
   pub lead_ms : ℕ
   pub make_ms : ℕ

@@ -191,9 +191,9 @@ impl StartDial {
         Ok(())
     }
 
-    /// Takes a row of the clock, of so many ms, that completes these marks: with its end the keying that waited first is
-    /// keyed, given up, or waits on; and the row's marks wait, after it, where there are any. `Err` says that memory ran
-    /// out.
+    /// Takes a row of the clock, of so many ms, that completes these marks: with its end the keying that waited first
+    /// is keyed, given up, or waits on; and the row's marks wait, after it, where there are any. `Err` says that memory
+    /// ran out.
     pub fn take_clock_row(
         &mut self,
         alloc: Global,
