@@ -102,6 +102,21 @@ const CASES: &[Case] = &[
         b"{\"dialled\":\"2345678\",\"ignored\":\"\",\"outcome\":\"DIALLED\",\"pulses\":\"5678\",\"trunk\":30}\n",
         b"",
     ),
+    // a complete number is sent on with a digit at least, or the table is refused
+    (
+        &["one digit", "2345678", "234"],
+        b"",
+        0,
+        b"2345678 DIALLED 0030 8\n234 INCOMPLETE 3\n",
+        b"",
+    ),
+    (
+        &["no digits", "2345678"],
+        b"",
+        1,
+        b"",
+        b"mfroute: route table: route 1 keys no digit\n",
+    ),
     (
         &["wrong send", "0"],
         b"",

@@ -11,12 +11,20 @@ const TEN: &[u8] = b"plan = 10\n[[route]]\ncode = \"212\"\ntrunk = 212\n\
 const PULSED: &[u8] = b"[[route]]\ncode = \"234\"\ntrunk = 30\ndelete = 3\nsend = \"dp\"\n\
 [[route]]\ncode = \"0\"\ntrunk = 1\n";
 
+// Of a complete number one digit is left.
+const ONE_DIGIT: &[u8] = b"[[route]]\ncode = \"234\"\ntrunk = 30\ndelete = 6\nsend = \"dp\"\n";
+
+// None is.
+const NO_DIGITS: &[u8] = b"[[route]]\ncode = \"234\"\ntrunk = 30\ndelete = 7\nsend = \"dp\"\n";
+
 // The files that there are.
 pub(crate) const FOLDER: Folder = Folder(&[
     ("seven", SEVEN),
     ("ten", TEN),
     ("no routes", b""),
     ("pulsed", PULSED),
+    ("one digit", ONE_DIGIT),
+    ("no digits", NO_DIGITS),
     (
         "wrong send",
         b"[[route]]\ncode = \"0\"\ntrunk = 1\nsend = 1\n",

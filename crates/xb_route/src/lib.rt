@@ -1,10 +1,10 @@
 //! The program `mfroute` without its process: it reads a route table and numbers, and tells what an office
 //! does with each number.
 //!
-//! - `answer_to`: the number that the digits complete and its order by the table, by the definitions of the
-//!   chain (`shortest_complete`, `routed`); or that they complete none. What is keyed, or refused, is what
-//!   the page says of a line that dials just this number; what goes out by dial pulses is what the number's route
-//!   keys where nothing is sent so, on a trunk group that takes them (`AgreesWithPage`).
+//! - `answer_to`: the number that the digits complete and its order by the table (`shortest_complete`,
+//!   `outgoing_routed`); or that they complete none. What is keyed, or refused, is what the page says of a line that
+//!   dials just this number; what goes out by dial pulses is what the number's route keys where nothing is sent so, a
+//!   digit at least, on a trunk group that takes them. Where that is no digit, it is refused (`AgreesWithPage`).
 //! - `number_of_text`: the digits that a text dials, letters as on a dial, or, unless memory ran out, its
 //!   fault with the first wrong byte and its place.
 //! - `route` and `attend`: with status 0 exactly the lines of the numbers were written, one for each number
