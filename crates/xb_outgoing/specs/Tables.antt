@@ -46,8 +46,8 @@ abbrev pub is_dialled : List ℕ → Order → Bool
 is_dialled pulsed (orders.Key trunk sent) = has_group pulsed trunk
 is_dialled pulsed (orders.Refused reason heard) = false
 
--- a call of no digits makes no pulse, and so the next office hears no number: to a trunk group that takes dial pulses it
--- is refused, as an unknown number that has so many digits
+-- a call of no digits makes no pulse, and so the next office hears no number: to a trunk group that takes dial pulses
+-- it is refused, as an unknown number that has so many digits
 abbrev pub refused_without_digits : List ℕ → ℕ → Order → Order
 refused_without_digits pulsed heard (orders.Key trunk []) =
     if has_group pulsed trunk then orders.Refused Unknown heard else orders.Key trunk []

@@ -54,7 +54,8 @@ shortening = outgoing (table_by
 
 pub record GivesOrders : Type 0 where
   pub no_digits : outgoing_order shortening (dialled.Number (2 ∷ 3 ∷ 4 ∷ [])) ≡ orders.Refused Unknown 3
-  pub all_deleted : outgoing_order shortening (dialled.Number (2 ∷ 3 ∷ 4 ∷ 5 ∷ 6 ∷ 7 ∷ [])) ≡ orders.Refused Unknown 6
+  pub all_deleted : outgoing_order shortening (dialled.Number (2 ∷ 3 ∷ 4 ∷ 5 ∷ 6 ∷ 7 ∷ []))
+      ≡ orders.Refused Unknown 6
   pub one_left : outgoing_order shortening (dialled.Number (2 ∷ 3 ∷ 4 ∷ 5 ∷ 6 ∷ 7 ∷ 8 ∷ []))
       ≡ orders.Key 30 (8 ∷ [])
   pub prefix_alone : outgoing_order shortening (dialled.Number (2 ∷ 3 ∷ 5 ∷ [])) ≡ orders.Key 30 (9 ∷ [])

@@ -10,8 +10,8 @@
 //! - `read_table`: the same of a file.
 //! - `OutgoingTable::takes_pulses`, `is_dialled`: whether a trunk group takes dial pulses, and whether an order goes
 //!   out so.
-//! - `OutgoingTable::order_of`, `order_of_number`: the order of the route table, but that a call of no digits to a trunk
-//!   group that takes dial pulses is refused as an unknown number (`outgoing_order`). `laws::worked_orders` has some.
+//! - `OutgoingTable::order_of`, `order_of_number`: the order of the route table, but that a call of no digits to a
+//!   trunk group that takes dial pulses is refused as an unknown number (`outgoing_order`, `laws::worked_orders`).
 //!
 //! What is said of a file is said of the bytes that the caller's `Files` says to be known.
 #![tactic(auto)]

@@ -31,8 +31,8 @@ plain_line digits = answer_line digits (answer_to worked_table digits)
 abbrev pub json_line : List ℕ → List ℕ
 json_line digits = object_line digits (answer_to worked_table digits)
 
--- a route that deletes all digits of 411, to a trunk group that takes dial pulses, and one of 611 in MF: a table that no
--- text writes, since each route of a text keys a digit of a complete number
+-- a route that deletes all digits of 411, to a trunk group that takes dial pulses, and one of 611 in MF: a table that
+-- no text writes, since each route of a text keys a digit of a complete number
 abbrev pub deleting_table : Outgoing
 deleting_table = outgoing (table_by
     (coded_route (4 ∷ 1 ∷ 1 ∷ []) 30 3 [] ∷ coded_route (6 ∷ 1 ∷ 1 ∷ []) 31 3 [] ∷ []) Seven standard_limits) (30 ∷ [])

@@ -141,7 +141,8 @@ abbrev pub calls_on : ℕ → List (List ℕ) → List DialledCall
 calls_on line numbers = map (call_of line) numbers
 
 -- the rows of keys dial the numbers of the orders that take dial pulses, each of which has a digit: by every plan by
--- which these are complete, and all lawful limits that ten pulses a second fit, exactly these numbers are heard, in order
+-- which these are complete, and all lawful limits that ten pulses a second fit, exactly these numbers are heard, in
+-- order
 pub record PulsesAreHeard : Type 0 where
   pub text : (line limit : ℕ) (table : Outgoing) (keys : List TimedKey)
       → page_of_keys forms.Rows line limit table keys
