@@ -102,7 +102,8 @@ fn check_case(
     let mut rest = deck;
     let got = attend(alloc, words, &mut rest, &mut out, &mut err);
     assert_eq!(rt; got, 0);
-    assert_eq!(rt; out.len(), samples * 2);
+    assert_eq!(rt; out.len() / 2, samples);
+    assert_eq!(rt; out.len() % 2, 0);
     assert_eq!(rt; first_sound(&out), first);
     let told = if given_up == 0 { b"".as_slice() } else { TOLD };
     assert!(rt; err.as_slice() == told);
