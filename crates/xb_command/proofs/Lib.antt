@@ -1,2 +1,3 @@
+pub mod AnswersTold
 pub mod Asked
 pub mod WordsTold

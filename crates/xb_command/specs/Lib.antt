@@ -1,7 +1,13 @@
+pub mod Answering
+pub mod Answers
 pub mod Commands
 pub mod Constants
 pub mod Files
 pub mod Given
+pub mod Judging
 pub mod Programs
+pub mod Tables
 pub mod Telling
+pub mod Usage
 pub mod Usages
+pub mod Works

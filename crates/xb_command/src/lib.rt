@@ -22,15 +22,30 @@
 //!   line that says so; 2 where the words are refused, and nothing was read or written but the usage.
 #![tactic(auto)]
 
+mod answering;
+mod asking;
 mod command;
+mod judging;
 pub mod laws;
+mod opening;
 mod pipe;
 mod reading;
 mod system;
+mod table;
 mod telling;
+mod usage;
+mod wording;
+mod work;
 
+pub use answering::tell_answer;
+pub use asking::{Answer, Misfit, NOTHING, ask_words};
 pub use command::Takes;
+pub use judging::Breach;
+pub use opening::{InOneLine, NoText, OpenFault, no_text, open_file, open_text};
 pub use pipe::{Errors, Output, Pipe, READER_GONE};
 pub use reading::{Words, read_words};
 pub use system::{Files, MOST_FILE_BYTES, SystemFiles, words_of_process};
+pub use table::{Call, FLAG, Program, VERSION, Value, Word};
 pub use telling::{DONE, FAULT, WORDS_REFUSED, WordsFault, tell_fault, tell_words};
+pub use usage::help_of;
+pub use work::{Source, Work, attend, file_source, text_source};

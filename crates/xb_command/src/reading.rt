@@ -17,7 +17,7 @@ use std::marker::Model;
 /// The words of a command line that `clap` took.
 #[derive(Drop)]
 pub struct Words<'a> {
-    matches: ArgMatches<'a>,
+    pub(crate) matches: ArgMatches<'a>,
 }
 
 impl<'a> Model for Words<'a> {

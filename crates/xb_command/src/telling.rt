@@ -46,7 +46,7 @@ fn line_of_fault<F: Display + Drop>(
 }
 
 // Writes the line that tells that memory ran out.
-fn tell_no_memory<E: Write>(err: &mut E, program: &str)
+pub(crate) fn tell_no_memory<E: Write>(err: &mut E, program: &str)
     ensures { AppendsBeginning (E.contents err.old) (E.contents err.new)
         (no_memory_line program.now) }
 {

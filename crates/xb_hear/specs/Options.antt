@@ -1,10 +1,8 @@
 -- What the words of the command line ask for, as clap reads them.
-use Rattle.std.specs.Prelude.{ℕ, suc, List, [], ◌∷◌, Bool, true, false, Option, Some, None, codes, nat_lt, if◌then◌else◌, option_and_then}
-use Rattle.clap.specs.Simple.{App}
-use Rattle.clap.specs.Walk.{Row, Text}
-use Rattle.xb_command.specs.Commands.{command_of}
-use Rattle.xb_command.specs.Given.{AskForNothing, AsksFor, ReadsFlag, ReadsNumber, given_by}
-use Rattle.xb_command.specs.declared.command.Takes.TheVariants as takes
+use Rattle.std.specs.Prelude.{ℕ, suc, ◌≡◌, List, Bool, true, false, Option, Some, None, codes, nat_lt, if◌then◌else◌, option_and_then, option_map}
+use Rattle.clap.specs.Walk.{Row, first_of}
+use Rattle.xb_command.specs.Given.{ReadsFlag, ReadsNumber, given_by}
+use Rattle.xb_hear.specs.declared.request.Asked.{Asked}
 use Rattle.xb_model.specs.declared.line.TheConstants.{LINES}
 use Rattle.xb_hear.specs.declared.request.Choice.TheVariants as choice
 use Rattle.xb_hear.specs.declared.request.ReportForm.{ReportForm}
@@ -13,14 +11,9 @@ use Rattle.xb_hear.specs.declared.request.Request.{Request}
 use Rattle.xb_hear.specs.declared.request.Request.TheVariants as request
 use Rattle.xb_hear.specs.declared.words.Options.{Options}
 
--- `mfhear [--line N] [--refused] [--html] [--json] [--svg [--attempt K]]`
-abbrev pub command_of_words : App
-command_of_words = command_of (codes "mfhear")
-    ((codes "line", takes.Number) ∷ (codes "refused", takes.Nothing) ∷ (codes "attempt", takes.Number)
-    ∷ (codes "svg", takes.Nothing) ∷ (codes "html", takes.Nothing) ∷ (codes "json", takes.Nothing) ∷ [])
-
 -- what clap matched says these options
 pub record Say (rows : List Row) (options : Options) : Type 0 where
+  pub deck : option_map (λ text. text.now) options.deck ≡ first_of (codes "DECK") rows
   pub line : ReadsNumber (given_by rows (codes "line")) options.line
   pub refused : ReadsFlag (given_by rows (codes "refused")) options.refused
   pub attempt : ReadsNumber (given_by rows (codes "attempt")) options.attempt
@@ -55,10 +48,7 @@ request_of options =
     option_and_then (λ asked. asked_of options.line options.refused options.svg options.attempt asked)
     (form_of options.html options.json)
 
--- clap takes the words, and they ask for this
-abbrev pub Asks : List Text → Request → Type 0
-Asks words request = AsksFor command_of_words Say request_of words request
-
--- clap refuses the words, or they ask for nothing that there is
-abbrev pub AreRefused : List Text → Type 0
-AreRefused words = AskForNothing command_of_words Say request_of words
+-- and of which deck
+abbrev pub asked_by : Options → Option Asked
+asked_by options =
+    option_map (λ request. record { deck = options.deck; request = request }) (request_of options)

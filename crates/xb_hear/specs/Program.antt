@@ -1,45 +1,32 @@
--- What the program did, by its status.
-use Rattle.std.specs.Prelude.{ℕ, ◌≡◌, List, codes, true, None, Err, Ok}
-use Rattle.std.specs.List.{list_all}
+-- What the program does.
+use Rattle.std.specs.Prelude.{None, Err, Ok}
 use Rattle.std.specs.Io.KnownBytes.{Keeps}
-use Rattle.clap.specs.Walk.{Text}
-use Rattle.xb_command.specs.Programs.{Attends, Streams}
+use Rattle.xb_command.specs.Programs.{Streams}
 use Rattle.xb_command.specs.Telling.{Tells}
-use Rattle.xb_command.specs.Usages.{names_option}
+use Rattle.xb_command.specs.Works.{AsksBy, AsksNothing, Rules, text_source}
+use Rattle.xb_command.specs.declared.table.Program.{Program}
 use Rattle.xb_hear.specs.declared.fault.HearFault.{HearFault}
-use Rattle.xb_hear.specs.declared.request.Request.{Request}
+use Rattle.xb_hear.specs.declared.request.Asked.{Asked}
 use Rattle.xb_hear.specs.DeckReport.{Delivers}
-use Rattle.xb_hear.specs.Options.{AreRefused, Asks, command_of_words}
+use Rattle.xb_hear.specs.Options.{Say, asked_by}
 
--- the program's name
-abbrev pub program : List ℕ
-program = codes "mfhear"
-
--- the line for words that are refused
-abbrev pub usage_line : List ℕ
-usage_line = codes "mfhear: usage: mfhear [--line N] [--refused] [--html] [--json] [--svg [--attempt K]]\n"
-
--- it names each option of the command
-abbrev pub UsageNamesEachOption : Type 0
-UsageNamesEachOption = list_all (λ rule. names_option usage_line rule.id) command_of_words.top.rules ≡ true
-
--- the words ask for something, and exactly the report of it was written
-pub record WritesReport (words : List Text) (old new : Streams) : Type 0 where
-  pub request : Request
-  pub asks : Asks words request
-  pub report : Delivers request old.input (Ok tt) old.output new.output
+-- exactly the report that is asked for was written
+pub record WritesReport (asked : Asked) (old new : Streams) : Type 0 where
+  pub report : Delivers asked.request old.input (Ok tt) old.output new.output
   pub quiet : Keeps old.errors new.errors
 
--- they ask for something that gave a fault, of which a line was told
-pub record HasFault (words : List Text) (old new : Streams) : Type 0 where
-  pub request : Request
+-- there was a fault, and a line says so
+pub record HasFault (asked : Asked) (program : Program) (old new : Streams) : Type 0 where
   pub fault : HearFault
-  pub asks : Asks words request
-  pub report : Delivers request old.input (Err fault) old.output new.output
-  pub line : Tells program None old.errors new.errors
+  pub report : Delivers asked.request old.input (Err fault) old.output new.output
+  pub line : Tells program.name.now None old.errors new.errors
 
--- what the program did with its words and its streams
-abbrev pub AttendsHear : List Text → Streams → Streams → ℕ → Type 0
-AttendsHear words old new status =
-    Attends program usage_line (WritesReport words old new) (HasFault words old new) (AreRefused words)
-    old new status
+-- what the words ask for, what is read, and what is done
+abbrev pub by_hear : Rules Asked
+by_hear = record {
+  Asks = AsksBy Say asked_by;
+  Misfits = λ call misfit. AsksNothing Say asked_by call;
+  source = λ asked. text_source asked.deck;
+  Done = λ asked program bytes old new. WritesReport asked old new;
+  Fails = λ asked program bytes old new. HasFault asked program old new;
+}

@@ -32,3 +32,12 @@ pub enum Request {
     /// The picture of a line: of its attempt of this number, from 1, or of the first ones.
     Picture(LineNo, Option<u32>),
 }
+
+/// What the words ask for.
+#[derive(Clone, Copy, Drop)]
+pub struct Asked<'a> {
+    /// The file of the deck; without it, or with `-`, the input.
+    pub deck: Option<&'a str>,
+    /// What is to be written.
+    pub request: Request,
+}

@@ -1,17 +1,82 @@
-// What the words of the command line ask for.
-ghost use Rattle.std.specs.Prelude.{◌≡◌, IfErr, IfOk, Some, false};
-ghost use Rattle.xb_command.specs.Commands.{texts_of};
-ghost use Rattle.xb_hear.specs.Options.{AreRefused, Asks, Say, asked_of, form_of, request_of};
+// The words of the program, and what they ask for.
+ghost use Rattle.std.specs.Prelude.{◌≡◌, Some, false, option_map};
+ghost use Rattle.clap.specs.Walk.{first_of};
+ghost use Rattle.xb_hear.specs.Options.{Say, asked_by, asked_of, form_of, request_of};
 
-use crate::program::PROGRAM;
-use crate::request::{Choice, ReportForm, Request};
-use std::alloc::Global;
-use xb_command::{Takes, Words, WordsFault, read_words};
+use crate::request::{Asked, Choice, ReportForm, Request};
+use xb_command::{FLAG, Program, Value, Word, Words};
 use xb_model::{LINES, LineNo};
 
-// What the options of the command line say.
+/// The program and its words.
+pub const PROGRAM: Program<'static> = Program {
+    name: "mfhear",
+    about: "Says what a register heard of each line of a deck, and where in the recording: the attempts, the digits with
+their pulses a second, percent break, breaks, makes and pause, what spoiled a digit, and how each attempt ended.
+
+    mfhear spoiled.deck --line 52
+    mfhear spoiled.deck --line 52 --svg > line_52.svg
+    mfhear spoiled.deck --html > spoiled.html
+    mfhear spoiled.deck --json | jq -r 'select(.reason == \"MUTILATED\") | .line'
+
+The status is 0 for a report, a picture, a page or objects, 1 for a fault, 2 where the words are refused, and 141
+where the reader of the output goes away.",
+    words: &[
+        Word {
+            name: "DECK",
+            value: Value::MayStand,
+            help: "the deck, a file; without it, or with -, standard input",
+            ..FLAG
+        },
+        Word {
+            name: "line",
+            value: Value::Number(0, 9999),
+            shown: "N",
+            help: "this line alone, else all that have attempts",
+            ..FLAG
+        },
+        Word {
+            name: "refused",
+            not_with: &["line"],
+            help: "only the lines that have a refused attempt",
+            ..FLAG
+        },
+        Word {
+            name: "html",
+            not_with: &["svg"],
+            help: "a page of HTML in place of the report: a list of the lines, those with a refused attempt first,
+        the tables of each line, and its picture",
+            ..FLAG
+        },
+        Word {
+            name: "json",
+            not_with: &["svg", "html"],
+            help: "JSON objects in place of the report, an attempt in each text line",
+            ..FLAG
+        },
+        Word {
+            name: "svg",
+            wants: &["line"],
+            help: "its picture (SVG) in place of the report",
+            ..FLAG
+        },
+        Word {
+            name: "attempt",
+            value: Value::Number(1, u32::MAX),
+            shown: "K",
+            wants: &["svg"],
+            help: "this attempt alone in the picture, else the first 20",
+            ..FLAG
+        },
+    ],
+    reads: Some(&["DECK"]),
+    writes_sound: false,
+    usage: "",
+};
+
+// What the words say.
 #[derive(Clone, Copy)]
-pub(crate) struct Options {
+pub(crate) struct Options<'a> {
+    pub(crate) deck: Option<&'a str>,
     pub(crate) line: Option<u32>,
     pub(crate) refused: bool,
     pub(crate) attempt: Option<u32>,
@@ -20,21 +85,12 @@ pub(crate) struct Options {
     pub(crate) json: bool,
 }
 
-// The options of the program, each under its name.
-const OPTIONS: [(&str, Takes); 6] = [
-    ("line", Takes::Number),
-    ("refused", Takes::Nothing),
-    ("attempt", Takes::Number),
-    ("svg", Takes::Nothing),
-    ("html", Takes::Nothing),
-    ("json", Takes::Nothing),
-];
-
 // What the words say.
-fn options_of(words: &Words) -> Options
+pub(crate) fn options_of<'a>(words: &Words<'a>) -> Options<'a>
     ensures { Say words.now result }
 {
     Options {
+        deck: words.text("DECK"),
         line: words.number("line"),
         refused: words.flag("refused"),
         attempt: words.number("attempt"),
@@ -75,8 +131,8 @@ fn of_line(number: u32, svg: bool, attempt: Option<u32>, form: ReportForm) -> Op
 
 // What the options ask for; `None` where they name no line of the office, a line and refused ones too, a picture
 // without its line, an attempt without a picture, or two of a picture, a page and objects.
-fn request_of(options: Options) -> Option<Request>
-    ensures { result ≡ request_of options }
+fn request_of(options: Options<'_>) -> Option<Request>
+    ensures { result ≡ request_of options.entry }
 {
     let form = form_of(options.html, options.json)?;
     match (options.line, options.refused, options.svg, options.attempt) {
@@ -87,12 +143,13 @@ fn request_of(options: Options) -> Option<Request>
     }
 }
 
-/// What the words ask for: the report, the page or the objects of a line, of all, or of those with a refused attempt,
-/// or the picture of a line.
-pub fn request_of_words(alloc: Global, words: &[String]) -> Result<Request, WordsFault>
-    ensures asks { IfOk result (λ request. Asks (texts_of words.now) request) }
-    ensures refused { IfErr result (λ f. f ≡ WordsFault.Refused → AreRefused (texts_of words.now)) }
+// What the options ask for, and of which deck.
+pub(crate) fn asked_by<'a>(options: Options<'a>) -> Option<Asked<'a>>
+    ensures { result ≡ asked_by options.entry }
 {
-    let words = read_words(alloc, PROGRAM, &OPTIONS, words)?;
-    request_of(options_of(&words)).ok_or(WordsFault::Refused)
+    let request = request_of(options)?;
+    Some(Asked {
+        deck: options.deck,
+        request,
+    })
 }

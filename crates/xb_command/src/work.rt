@@ -1,0 +1,132 @@
+// A program by its table: its words, its files and its streams in, a status out.
+ghost use Rattle.std.specs.Prelude.{◌≡◌, true, IfErr, IfOk};
+ghost use Rattle.clap.specs.Faults.{is_simple_and_free};
+ghost use Rattle.xb_command.specs.Programs.{streams};
+ghost use Rattle.xb_command.specs.Tables.{command_by};
+ghost use Rattle.xb_command.specs.Works.{AttendsBy, IsWrong, PerformsBy, Runs, file_source, text_source};
+
+use crate::answering::tell_answer;
+use crate::asking::Answer;
+use crate::opening::{open_file, open_text};
+use crate::system::Files;
+use crate::table::{Call, Program};
+use crate::telling::tell_fault;
+use std::alloc::Global;
+use std::io::{Read, Write};
+
+/// What a program reads beside the files that it reads whole.
+#[derive(Clone, Copy)]
+pub enum Source<'a> {
+    /// Standard input, if anything.
+    Input,
+    /// The file of this name, which is text.
+    Text(&'a str),
+    /// The file of this name, which is any bytes.
+    File(&'a str),
+}
+
+/// The source that a word names: standard input where there is none, or it is `-`.
+pub fn text_source(name: Option<&str>) -> Source<'_>
+    ensures { result ≡ text_source name.entry }
+{
+    match name {
+        None | Some("-") => Source::Input,
+        Some(name) => Source::Text(name),
+    }
+}
+
+/// The same of a file that is any bytes.
+pub fn file_source(name: Option<&str>) -> Source<'_>
+    ensures { result ≡ file_source name.entry }
+{
+    match name {
+        None | Some("-") => Source::Input,
+        Some(name) => Source::File(name),
+    }
+}
+
+/// What the words of a program's command line ask for, and what is done by it.
+pub trait Work<'a>: Sized + Drop {
+    ghost use Rattle.xb_command.specs.Works.{Rules};
+
+    // which words ask for it, what it reads, and what holds of its streams where it was done, and where it failed
+    ghost rules: { Rules Self };
+
+    /// What the words of a call ask for, or why they choose nothing.
+    fn ask(alloc: Global, call: &Call<'a>) -> Result<Self, Answer<'a>>
+        requires { is_simple_and_free (command_by call.now.program.now) ≡ true }
+        ensures asks { IfOk result (rules.Asks call.now) }
+        ensures wrong { IfErr result (IsWrong rules.Misfits call.now) };
+
+    /// What is read.
+    fn source(&self) -> Source<'a>
+        ensures { result ≡ rules.source self.now };
+
+    /// Does what is asked for, with this input, and returns the status.
+    fn run<F: Files, R: Read, W: Write, E: Write>(
+        self,
+        alloc: Global,
+        program: &Program<'a>,
+        files: &F,
+        input: &mut R,
+        out: &mut W,
+        err: &mut E,
+    ) -> u8
+        ensures { Runs (rules.Done self program.now (F.bytes files.now))
+            (rules.Fails self program.now (F.bytes files.now))
+            (streams (R.remaining input.old) (W.contents out.old) (E.contents err.old))
+            (streams (R.remaining input.new) (W.contents out.new) (E.contents err.new)) result };
+}
+
+// Opens what is read, and does what is asked for with it.
+fn perform<'a, Q: Work<'a>, F: Files, R: Read, W: Write, E: Write>(
+    alloc: Global,
+    request: Q,
+    program: &Program<'a>,
+    files: &F,
+    input: &mut R,
+    out: &mut W,
+    err: &mut E,
+) -> u8
+    ensures { PerformsBy Q.rules request program.now (F.bytes files.now)
+        (streams (R.remaining input.old) (W.contents out.old) (E.contents err.old))
+        (streams (R.remaining input.new) (W.contents out.new) (E.contents err.new)) result }
+{
+    match request.source() {
+        Source::Input => request.run(alloc, program, files, input, out, err),
+        Source::Text(name) => match open_text(alloc, files, name) {
+            Ok(mut file) => request.run(alloc, program, files, &mut file, out, err),
+            Err(fault) => tell_fault(alloc, err, program.name, fault),
+        },
+        Source::File(name) => match open_file(alloc, files, name) {
+            Ok(mut file) => request.run(alloc, program, files, &mut file, out, err),
+            Err(fault) => tell_fault(alloc, err, program.name, fault),
+        },
+    }
+}
+
+/// Reads the words of a call, does by them what a program does, and returns the status of the process:
+///
+/// - `DONE`: what they ask for was done; or they ask for help or the version, and that was written;
+/// - `FAULT`: there was a fault, or the file that they name cannot be opened, or memory ran out; `err` gets it as one line;
+/// - `WORDS_REFUSED`: the words are wrong; nothing is read or written, but `err` gets a line that says why.
+///
+/// A fault in writing that line to `err` changes no status.
+pub fn attend<'a, Q: Work<'a>, F: Files, R: Read, W: Write, E: Write>(
+    alloc: Global,
+    call: &Call<'a>,
+    files: &F,
+    input: &mut R,
+    out: &mut W,
+    err: &mut E,
+) -> u8
+    requires { is_simple_and_free (command_by call.now.program.now) ≡ true }
+    ensures { AttendsBy Q.rules call.now (F.bytes files.now)
+        (streams (R.remaining input.old) (W.contents out.old) (E.contents err.old))
+        (streams (R.remaining input.new) (W.contents out.new) (E.contents err.new)) result }
+{
+    match Q::ask(alloc, call) {
+        Ok(request) => perform(alloc, request, call.program, files, input, out, err),
+        Err(answer) => tell_answer(alloc, out, err, call.program, answer),
+    }
+}
