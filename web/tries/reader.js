@@ -1,7 +1,7 @@
-// node tries/reader.js PAGE EXAMPLES MFBANK MFCHECK: decks through the page's reader, in Node. Each deck of EXAMPLES
-// gives its page or its fault; decks and route tables that are made by a seed, right and wrong ones, those of
-// docs/DECK.md, and tables in all sorts of TOML give what MFBANK gives, and are told of as MFCHECK does; and where
-// memory ends the reader says so.
+// node tries/reader.js PAGE EXAMPLES MFBANK MFCHECK [SEEDS]: decks through the page's reader, in Node. Each deck of
+// EXAMPLES gives its page or its fault; decks and route tables that are made by 500 seeds, or SEEDS, right and wrong
+// ones, those of docs/DECK.md, and tables in all sorts of TOML give what MFBANK gives, and are told of as MFCHECK does;
+// and where memory ends the reader says so.
 'use strict';
 const { spawnSync } = require('child_process');
 const fs = require('fs');
@@ -10,7 +10,7 @@ const { Reader, Refused, modulesOf, givenOf } = require('./chain.js');
 const { is, end } = require('./checks.js');
 const { deckOf, deckOfTable, deckOfSeededTable } = require('./seeds.js');
 
-const SEEDED = 500;
+const SEEDS = 500;
 
 // What mfbank gives for each deck: its page, or its fault.
 function wantedOf(mfbank, decks) {
@@ -107,9 +107,9 @@ function tryMemory(reader, deck) {
   is('with less and less memory the page, or that memory ran out', isBoth, true);
 }
 
-async function tryReader(file, examples, mfbank, mfcheck) {
+async function tryReader(file, examples, mfbank, mfcheck, many = SEEDS) {
   const reader = await Reader.open(modulesOf(file).reader);
-  const seeds = Array.from({ length: SEEDED }, (_, i) => i + 1);
+  const seeds = Array.from({ length: many }, (_, i) => i + 1);
   const read = (name) => fs.readFileSync(path.join(examples, name));
   const tables = ['routes.toml', 'routes_of_ten.toml'].map((name) => read(name).toString().trimEnd());
   const tryBeside = (what, decks) => {

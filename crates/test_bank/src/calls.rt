@@ -2,12 +2,11 @@
 ghost use Rattle.std.specs.Prelude.{◌≤◌};
 
 use std::alloc::Global;
-use std::process::Abort;
 use std::sync::Wait;
 use std::test::Fail;
 use std::thread::Threads;
 use std::time::Clock;
-use test_kit::decks::{TABLE, Worked, is_page, one_after_another};
+use test_kit::decks::{TABLE, Worked, check_page, one_after_another};
 use xb_model::{Row, RowSource};
 use xb_ring::{GREATEST_CAPACITY, Gate, MOST_BRANCHES};
 use xb_routes::RouteTable;
@@ -51,15 +50,8 @@ pub fn run_on<S: RowSource + Drop + Send, R: Threads + Wait + Clock + Sync, G: G
     run(rt, alloc, source, table, senders, ring, gate)
 }
 
-/// The tapes have this page, in its short form.
-pub fn check_page<A: Abort>(
-    rt: &A,
-    alloc: Global,
-    tapes: &Tapes,
-    lines: &[&str],
-) -> Result<(), Fail> {
+/// The tapes have the page of the worked example.
+pub fn check_tapes(alloc: Global, tapes: &Tapes, worked: &Worked) -> Result<(), Fail> {
     let written = page(alloc, tapes)?;
-    let is_page = is_page(alloc, written.as_slice(), lines)?;
-    assert!(rt; is_page);
-    Ok(())
+    check_page(alloc, worked.name, &written, worked.page)
 }

@@ -1,5 +1,5 @@
 // How often each post passes the gate.
-use crate::calls::{calls_of, check_page, run_on};
+use crate::calls::{calls_of, check_tapes, run_on};
 use crate::passes::Passes;
 use std::test::Fail;
 use test_kit::attempts::OPERATOR_CALL;
@@ -26,7 +26,7 @@ fn each_post_passes_before_each_event(rt: HostRuntime) -> Result<(), Fail> {
     let source = Listed::new(&calls.rows);
     let tapes = run_on(&rt, rt.alloc(), source, &calls.table, 2, 64, &passes);
     match tapes {
-        Ok(tapes) => check_page(&rt, rt.alloc(), &tapes, OPERATOR_CALL.page)?,
+        Ok(tapes) => check_tapes(rt.alloc(), &tapes, &OPERATOR_CALL)?,
         Err(_) => return Err(Fail::from("no tapes")),
     }
     for (post, least) in PASSES {

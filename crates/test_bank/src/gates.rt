@@ -1,7 +1,7 @@
 // Gates that hold one post until another has come so far: the posts run at the same time.
 ghost use Rattle.std.specs.Prelude.{◌≤◌, false, None};
 
-use crate::calls::{Calls, calls_of, check_page, run_on};
+use crate::calls::{Calls, calls_of, check_tapes, run_on};
 use std::alloc::Global;
 use std::process::Abort;
 use std::sync::Wait;
@@ -78,7 +78,7 @@ fn check_held<R: Threads + Wait + Clock + Abort + Sync>(
     let tapes = run_on(rt, alloc, source, &calls.table, senders, 1_024, gate);
     assert_eq!(rt; gate.let_go.load(Ordering::SeqCst), 0);
     match tapes {
-        Ok(tapes) => check_page(rt, alloc, &tapes, SIX_CALLS.page),
+        Ok(tapes) => check_tapes(alloc, &tapes, &SIX_CALLS),
         Err(_) => Err(Fail::from("no tapes")),
     }
 }
@@ -167,7 +167,7 @@ fn check_waiting<R: Threads + Wait + Clock + Abort + Sync>(
     assert_eq!(rt; then.load(Ordering::SeqCst), 45, "{senders} senders");
     assert_eq!(rt; tape.load(Ordering::SeqCst), 54, "{senders} senders");
     match tapes {
-        Ok(tapes) => check_page(rt, alloc, &tapes, SIX_CALLS.page),
+        Ok(tapes) => check_tapes(alloc, &tapes, &SIX_CALLS),
         Err(_) => Err(Fail::from("no tapes")),
     }
 }

@@ -3,7 +3,7 @@ use std::alloc::Global;
 use std::io::{Read, Write};
 use std::process::Abort;
 use std::test::Fail;
-use test_kit::words_of;
+use test_kit::{Beside, words_of};
 use xb_bench::attend;
 
 /// The first lines, where a dial of Bell is asked for.
@@ -39,6 +39,10 @@ pub fn check_lines(
     assert_eq!(rt; status, 0, "{}", told.escape_ascii());
     assert!(rt; out.starts_with(first.as_bytes()), "{}", out.escape_ascii());
     let rest = &out[first.len()..];
-    assert!(rt; rest == lines.as_bytes(), "{}", rest.escape_ascii());
+    let beside = Beside {
+        came: rest,
+        wanted: lines.as_bytes(),
+    };
+    assert!(rt; beside.came == beside.wanted, "{words:?}: {beside}");
     Ok(())
 }

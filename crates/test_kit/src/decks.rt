@@ -1,4 +1,5 @@
 // Decks and pages, as text.
+use crate::beside::Beside;
 use crate::pulses::{in_turn, rows_of};
 use std::alloc::{AllocError, Global};
 use std::test::Fail;
@@ -103,8 +104,13 @@ pub fn page_of(alloc: Global, lines: &[&str]) -> Result<String, Fail> {
     Ok(page)
 }
 
-/// Whether this is the page of its short form.
-pub fn is_page(alloc: Global, written: &[u8], lines: &[&str]) -> Result<bool, Fail> {
-    let wanted = page_of(alloc, lines)?;
-    Ok(written == wanted.as_bytes())
+/// Checks that a page, of what this name says, is that of its short form.
+pub fn check_page(alloc: Global, name: &str, came: &[u8], lines: &[&str]) -> Result<(), Fail> {
+    let page = page_of(alloc, lines)?;
+    let wanted = page.as_bytes();
+    if came == wanted {
+        return Ok(());
+    }
+    let beside = Beside { came, wanted };
+    Err(Fail::new(format_args!("the page of {name}: {beside}")))
 }

@@ -4,9 +4,11 @@
 //! - The fakes are a reader and a writer that fail, or that give and take little at a time; files by their names;
 //!   random numbers that are the same in each run; the words of a command line; and what a program gives on such
 //!   streams.
+//! - A check that fails tells its case, and where what came differs from what was wanted.
 #![tactic(auto)]
 
 pub mod attempts;
+mod beside;
 pub mod decks;
 mod dice;
 mod folder;
@@ -17,6 +19,7 @@ pub mod sources;
 mod streams;
 mod words;
 
+pub use beside::{Beside, shown};
 pub use dice::Dice;
 pub use folder::Folder;
 pub use programs::{Gives, Program, check_reads, check_status, check_writes};

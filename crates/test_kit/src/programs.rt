@@ -1,4 +1,5 @@
 // Programs, by their words and streams.
+use crate::beside::{Beside, shown};
 use crate::streams::{Halting, Short};
 use crate::words::words_of;
 use std::alloc::Global;
@@ -35,7 +36,8 @@ pub struct Gives<'a> {
     pub line: &'a [u8],
 }
 
-// Checks what a program gives on these streams.
+// Checks what a program gives on these streams. A failure tells the words, the beginning of the input, and what came
+// beside what was wanted.
 fn check<P: Program>(
     alloc: Global,
     program: &P,
@@ -45,15 +47,26 @@ fn check<P: Program>(
     wanted: Gives<'_>,
 ) -> Result<(), Fail> {
     let all = words_of(alloc, program.name(), words)?;
+    let input = reader.rest;
     let mut err = Vec::new(alloc);
     let status = program.attend(alloc, &all, reader, out, &mut err);
     let same_bytes = out.taken.as_slice() == wanted.written && err.as_slice() == wanted.line;
     if status == wanted.status && same_bytes {
         return Ok(());
     }
-    let written = out.taken.len();
-    let line = err.escape_ascii();
-    Err(Fail::new(format_args!("{words:?}: {status}, {written} bytes, {line}")))
+    let of = shown(input, 0).escape_ascii();
+    let line = Beside {
+        came: &err,
+        wanted: wanted.line,
+    };
+    let written = Beside {
+        came: &out.taken,
+        wanted: wanted.written,
+    };
+    let wanted = wanted.status;
+    Err(Fail::new(format_args!(
+        "{words:?} of \"{of}\": status {status}, wanted {wanted}; standard error {line}; output {written}"
+    )))
 }
 
 /// Checks what a program gives of its input by these words, its name left out.

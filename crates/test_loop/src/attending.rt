@@ -4,7 +4,7 @@ use std::io;
 use std::io::{ErrorKind, Read, Write};
 use std::process::Abort;
 use std::test::Fail;
-use test_kit::{Folder, words_of};
+use test_kit::{Beside, Folder, shown, words_of};
 use xb_loop::attend;
 
 /// Three route tables: one that is right, one of another release limit, and one that is not TOML.
@@ -43,9 +43,13 @@ pub fn attended<R: Read, W: Write>(
 /// Checks a status, and what is told.
 pub fn check_told(rt: &impl Abort, got: (u8, &[u8]), status: u8, told: &[u8], of: &[u8]) {
     let (got_status, got_told) = got;
-    let (of, text) = (of.escape_ascii(), got_told.escape_ascii());
-    assert_eq!(rt; got_status, status, "{of}: {text}");
-    assert!(rt; got_told == told, "{of}: {text}");
+    let of = shown(of, 0).escape_ascii();
+    let beside = Beside {
+        came: got_told,
+        wanted: told,
+    };
+    assert_eq!(rt; got_status, status, "{of}: {beside}");
+    assert!(rt; got_told == told, "{of}: {beside}");
 }
 
 /// Checks the status of a recording that is read so, what is printed of it, and what is told.
@@ -65,6 +69,10 @@ pub fn check_reader<R: Read>(
 
 // Checks what is printed.
 fn check_rows(rt: &impl Abort, out: &[u8], case: &Case<'_>) {
-    let of = case.recording.escape_ascii();
-    assert!(rt; out == case.rows, "{of}: {}", out.escape_ascii());
+    let of = shown(case.recording, 0).escape_ascii();
+    let beside = Beside {
+        came: out,
+        wanted: case.rows,
+    };
+    assert!(rt; out == case.rows, "{of}: {beside}");
 }

@@ -9,7 +9,7 @@ use std::test::Fail;
 use std::thread::Threads;
 use std::time::Clock;
 use test_kit::attempts::{SHEETS, TWO_LINES_IN_TURN};
-use test_kit::decks::{TABLE, Worked, deck_of, is_page, joined, one_after_another, two_in_turn};
+use test_kit::decks::{TABLE, Worked, check_page, deck_of, joined, one_after_another, two_in_turn};
 use xb_model::Row;
 use xb_ring::{GREATEST_CAPACITY, MOST_BRANCHES};
 
@@ -28,9 +28,8 @@ fn check_deck<R: Threads + Wait + Clock + Abort + Sync>(
     let mut reader = deck.as_bytes();
     let mut page: Vec<u8> = Vec::new(alloc);
     operate_on(rt, alloc, &mut reader, &mut page, senders, ring)?;
-    let is_page = is_page(alloc, page.as_slice(), worked.page)?;
-    assert!(rt; is_page, "{}, {senders} senders", worked.name);
-    Ok(())
+    let name = format!(in alloc; "{}, {senders} senders", worked.name)?;
+    check_page(alloc, &name, &page, worked.page)
 }
 
 fn check_rows<R: Threads + Wait + Clock + Abort + Sync>(

@@ -8,7 +8,7 @@ use std::sync::Wait;
 use std::test::Fail;
 use std::thread::Threads;
 use std::time::Clock;
-use test_kit::decks::{TABLE, Worked, deck_of, is_page, one_after_another};
+use test_kit::decks::{TABLE, Worked, check_page, deck_of, one_after_another};
 use xb_office::{OfficeFault, operate};
 use xb_ring::{GREATEST_CAPACITY, MOST_BRANCHES};
 
@@ -45,12 +45,11 @@ fn check_given(
     gives: Gives,
 ) -> Result<(), Fail> {
     let (fault, page) = got;
-    let is_right = match gives {
-        Ok(lines) => fault.is_none() && is_page(alloc, page, lines)?,
-        Err(wanted) => fault == Some(wanted) && page.is_empty(),
-    };
-    assert!(rt; is_right, "{name}");
-    Ok(())
+    assert_eq!(rt; fault, gives.err(), "{name}");
+    match gives {
+        Ok(lines) => check_page(alloc, name, page, lines),
+        Err(_) => check_page(alloc, name, page, &[]),
+    }
 }
 
 /// The deck gives this page, or this fault and no page.

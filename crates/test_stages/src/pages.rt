@@ -3,6 +3,7 @@ use crate::tapes::{line, put};
 use std::alloc::Global;
 use std::process::Abort;
 use std::test::Fail;
+use test_kit::Beside;
 use test_kit::marks::{keying, unended};
 use xb_model::{LineNo, Mark, Reason};
 use xb_tape::{Tapes, page};
@@ -37,10 +38,11 @@ fn tapes_of(rt: &impl Abort, alloc: Global, entries: &[(u16, Entry)]) -> Result<
 // Checks the page of tapes.
 fn check_tapes(rt: &impl Abort, alloc: Global, tapes: &Tapes, text: &str) -> Result<(), Fail> {
     let page = page(alloc, tapes)?;
-    assert!(rt;
-        page.as_slice() == text.as_bytes(),
-        "the page is not {text}"
-    );
+    let beside = Beside {
+        came: &page,
+        wanted: text.as_bytes(),
+    };
+    assert!(rt; beside.came == beside.wanted, "{beside}");
     Ok(())
 }
 
