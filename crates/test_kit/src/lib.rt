@@ -24,4 +24,4 @@ pub use dice::Dice;
 pub use folder::Folder;
 pub use programs::{Gives, Program, check_reads, check_status, check_writes};
 pub use streams::{Halting, Short};
-pub use words::words_of;
+pub use words::{called, words_of};
