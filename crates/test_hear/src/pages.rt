@@ -2,8 +2,8 @@
 use crate::reports::DECK;
 use std::alloc::Global;
 use std::test::Fail;
-use test_kit::words_of;
-use xb_hear::attend;
+use test_kit::{Folder, called, words_of};
+use xb_hear::{PROGRAM, attend};
 
 const HEAD: &str = "<!DOCTYPE html>
 <html lang=\"en\">
@@ -115,7 +115,15 @@ fn written(alloc: Global, words: &[&str], last: &str) -> Result<Vec<u8>, Fail> {
     let mut deck = DECK;
     let mut out = Vec::new(alloc);
     let mut err = Vec::new(alloc);
-    if attend(alloc, &all, &mut deck, &mut out, &mut err) == 0 {
+    if attend(
+        alloc,
+        &called(&PROGRAM, &all),
+        &Folder(&[]),
+        &mut deck,
+        &mut out,
+        &mut err,
+    ) == 0
+    {
         Ok(out)
     } else {
         Err(Fail::from("the words are refused"))

@@ -1,8 +1,8 @@
 // What the pictures of a small deck say, as a person reckoned it.
 use crate::reports::DECK;
 use std::test::Fail;
-use test_kit::words_of;
-use xb_hear::attend;
+use test_kit::{Folder, called, words_of};
+use xb_hear::{PROGRAM, attend};
 
 // The words after those that ask for a picture, and texts that it has, in their order.
 const PICTURES: &[(&[&str], &[&str])] = &[
@@ -64,7 +64,14 @@ fn pictures_say_what_was_heard(rt: HostRuntime) -> Result<(), Fail> {
         let mut deck = DECK;
         let mut out = Vec::new(rt.alloc());
         let mut err = Vec::new(rt.alloc());
-        let got = attend(rt.alloc(), &all, &mut deck, &mut out, &mut err);
+        let got = attend(
+            rt.alloc(),
+            &called(&PROGRAM, &all),
+            &Folder(&[]),
+            &mut deck,
+            &mut out,
+            &mut err,
+        );
         assert_eq!(rt; got, 0, "{words:?}");
         assert!(rt; err.is_empty(), "{words:?}");
         let mut rest = out.as_slice();

@@ -1,7 +1,7 @@
 // Reports of a small deck, as a person reckoned them.
 use std::test::Fail;
-use test_kit::words_of;
-use xb_hear::attend;
+use test_kit::{Folder, called, words_of};
+use xb_hear::{PROGRAM, attend};
 
 // Line 7 dials 0 with a make at its limit, line 8 a digit with a break over its limit, line 9 nothing, and line 10
 // two such digits and a good one.
@@ -111,7 +111,14 @@ fn reports_as_reckoned(rt: HostRuntime) -> Result<(), Fail> {
         let mut deck = *deck;
         let mut out = Vec::new(rt.alloc());
         let mut err = Vec::new(rt.alloc());
-        let got = attend(rt.alloc(), &all, &mut deck, &mut out, &mut err);
+        let got = attend(
+            rt.alloc(),
+            &called(&PROGRAM, &all),
+            &Folder(&[]),
+            &mut deck,
+            &mut out,
+            &mut err,
+        );
         assert_eq!(rt; got, 0, "{words:?}");
         assert!(rt; err.is_empty(), "{words:?}");
         assert!(rt; out.as_slice() == want.as_bytes(), "{words:?}");

@@ -2,8 +2,11 @@
 use crate::reports::DECK;
 use std::alloc::Global;
 use std::test::Fail;
-use test_kit::{Gives, Halting, Program, Short, check_reads, check_status, check_writes};
-use xb_hear::attend;
+use test_kit::{
+    Folder, Gives, Halting, Program, Short, called, check_reads, check_status, check_writes,
+    words_of,
+};
+use xb_hear::{PROGRAM, attend};
 
 // The program `mfhear`.
 #[derive(Clone, Copy)]
@@ -22,12 +25,16 @@ impl Program for Mfhear {
         out: &mut Short,
         err: &mut Vec<u8>,
     ) -> u8 {
-        attend(alloc, words, reader, out, err)
+        attend(alloc, &called(&PROGRAM, words), &FOLDER, reader, out, err)
     }
 }
 
-const USAGE: &[u8] =
-    b"mfhear: usage: mfhear [--line N] [--refused] [--html] [--json] [--svg [--attempt K]]\n";
+// The files that there are.
+const FOLDER: Folder = Folder(&[
+    ("day.deck", DECK),
+    ("call.wav", b"RIFF\x24\0\0\0WAVEfmt "),
+    ("wide.deck", b"\xff\xfeb\0"),
+]);
 
 // Of a line with a break alone.
 const NINE: &[u8] = b"mfhear: line 9 has no attempt\n";
@@ -53,8 +60,18 @@ const CASES: &[(&[&str], &[u8], u8, &[u8])] = &[
         1,
         b"mfhear: loop rows: record 2 has a wrong state\n",
     ),
-    (&["--line", "10000"], DECK, 2, USAGE),
-    (&["--line", "x"], DECK, 2, USAGE),
+    (
+        &["--line", "10000"],
+        DECK,
+        2,
+        b"mfhear: invalid value '10000' for '--line <N>': 10000 is not in 0..=9999; mfhear --help says more\n",
+    ),
+    (
+        &["--line", "x"],
+        DECK,
+        2,
+        b"mfhear: invalid value 'x' for '--line <N>': a whole number is wanted, 0 to 9999; mfhear --help says more\n",
+    ),
     (
         &["--line", "8", "--svg", "--attempt", "3"],
         DECK,
@@ -71,17 +88,99 @@ const CASES: &[(&[&str], &[u8], u8, &[u8])] = &[
         1,
         b"mfhear: line 9999 has no attempt\n",
     ),
-    (&["--svg"], DECK, 2, USAGE),
-    (&["--refused", "--svg"], DECK, 2, USAGE),
-    (&["--refused", "--line", "8"], DECK, 2, USAGE),
-    (&["--line", "8", "--html", "--svg"], DECK, 2, USAGE),
-    (&["--line", "8", "--json", "--svg"], DECK, 2, USAGE),
-    (&["--html", "--json"], DECK, 2, USAGE),
-    (&["--line", "8", "--html", "--attempt", "1"], DECK, 2, USAGE),
-    (&["--line", "8", "--attempt", "1"], DECK, 2, USAGE),
-    (&["--line", "8", "--svg", "--attempt", "0"], DECK, 2, USAGE),
-    (&["--help"], DECK, 2, USAGE),
-    (&["deck"], DECK, 2, USAGE),
+    (
+        &["--svg"],
+        DECK,
+        2,
+        b"mfhear: --svg wants --line; mfhear --help says more\n",
+    ),
+    (
+        &["--refused", "--svg"],
+        DECK,
+        2,
+        b"mfhear: --svg wants --line; mfhear --help says more\n",
+    ),
+    (
+        &["--refused", "--line", "8"],
+        DECK,
+        2,
+        b"mfhear: --refused and --line do not go together; mfhear --help says more\n",
+    ),
+    (
+        &["--line", "8", "--html", "--svg"],
+        DECK,
+        2,
+        b"mfhear: --html and --svg do not go together; mfhear --help says more\n",
+    ),
+    (
+        &["--line", "8", "--json", "--svg"],
+        DECK,
+        2,
+        b"mfhear: --json and --svg do not go together; mfhear --help says more\n",
+    ),
+    (
+        &["--html", "--json"],
+        DECK,
+        2,
+        b"mfhear: --json and --html do not go together; mfhear --help says more\n",
+    ),
+    (
+        &["--line", "8", "--html", "--attempt", "1"],
+        DECK,
+        2,
+        b"mfhear: --attempt wants --svg; mfhear --help says more\n",
+    ),
+    (
+        &["--line", "8", "--attempt", "1"],
+        DECK,
+        2,
+        b"mfhear: --attempt wants --svg; mfhear --help says more\n",
+    ),
+    (
+        &["--line", "8", "--svg", "--attempt", "0"],
+        DECK,
+        2,
+        b"mfhear: invalid value '0' for '--attempt <K>': 0 is not in 1..=4294967295; mfhear --help says more\n",
+    ),
+    (
+        &["--lin", "8"],
+        DECK,
+        2,
+        b"mfhear: there is no option '--lin'; a similar argument exists: '--line'; mfhear --help says more\n",
+    ),
+    (
+        &["--line=0", "--bad", "--line=10000"],
+        DECK,
+        2,
+        b"mfhear: there is no option '--bad'; mfhear --help says more\n",
+    ),
+    (
+        &["--line", "10000", "--bad"],
+        DECK,
+        2,
+        b"mfhear: invalid value '10000' for '--line <N>': 10000 is not in 0..=9999; mfhear --help says more\n",
+    ),
+    (
+        &["day.deck", "other"],
+        DECK,
+        2,
+        b"mfhear: there is one word too many, 'other'; mfhear --help says more\n",
+    ),
+    (&["other"], DECK, 1, b"mfhear: other: entity not found\n"),
+    (
+        &["call.wav"],
+        DECK,
+        1,
+        b"mfhear: call.wav: it is a sound, which mfrx and mfloop take\n",
+    ),
+    (
+        &["wide.deck"],
+        DECK,
+        1,
+        b"mfhear: wide.deck: it is UTF-16, and UTF-8 is taken: iconv -f UTF-16 -t UTF-8 makes that of it\n",
+    ),
+    (&["day.deck", "--line", "9"], b"", 1, NINE),
+    (&["-", "--line", "9"], DECK, 1, NINE),
 ];
 
 #[test]
@@ -109,4 +208,32 @@ fn writes_the_beginning_where_the_report_fails(rt: HostRuntime) -> Result<(), Fa
     let rooms = [0, 1, 98, 300];
     let line = b"mfhear: the report could not be written\n";
     check_writes(rt.alloc(), &Mfhear, &[], DECK, &rooms, line)
+}
+
+#[test]
+fn tells_how_it_is_called(rt: HostRuntime) -> Result<(), Fail> {
+    let usage =
+        b"usage: mfhear [DECK] [--line N] [--refused] [--html] [--json] [--svg] [--attempt K]\n\nSays ";
+    let of_line = b"\n  --svg\n        its picture (SVG) in place of the report; it wants --line\n";
+    let all = words_of(rt.alloc(), "mfhear", &["--line", "9", "--help"])?;
+    let mut out = Vec::new(rt.alloc());
+    let mut err = Vec::new(rt.alloc());
+    let mut nothing: &[u8] = b"";
+    let status = attend(
+        rt.alloc(),
+        &called(&PROGRAM, &all),
+        &FOLDER,
+        &mut nothing,
+        &mut out,
+        &mut err,
+    );
+    assert_eq!(rt; status, 0);
+    assert!(rt; err.is_empty());
+    assert!(rt; out.starts_with(usage), "{}", out.escape_ascii());
+    assert!(rt;
+        out.windows(of_line.len()).any(|part| part == of_line),
+        "{}",
+        out.escape_ascii()
+    );
+    Ok(())
 }

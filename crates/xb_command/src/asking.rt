@@ -56,14 +56,14 @@ pub enum Answer<'a> {
 }
 
 // What an error of clap says, with its message.
-fn answer_by<'a>(alloc: Global, kind: ErrorKind, message: &str) -> Answer<'a>
+fn answer_by<'a>(alloc: Global, program: &Program<'a>, kind: ErrorKind, message: &str) -> Answer<'a>
     ensures { AnswersError kind result }
 {
     match kind {
         ErrorKind::OutOfMemory => Answer::NoMemory,
         ErrorKind::DisplayHelp => Answer::Help,
         ErrorKind::DisplayVersion => Answer::Version,
-        kind => match reason_of(alloc, message) {
+        kind => match reason_of(alloc, program, message) {
             Ok(reason) => Answer::Wrong(kind, reason),
             Err(_) => Answer::NoMemory,
         },
@@ -71,11 +71,11 @@ fn answer_by<'a>(alloc: Global, kind: ErrorKind, message: &str) -> Answer<'a>
 }
 
 // What an error of clap says.
-fn answer_of<'a>(alloc: Global, error: &Error) -> Answer<'a>
+fn answer_of<'a>(alloc: Global, program: &Program<'a>, error: &Error) -> Answer<'a>
     ensures { AnswersError (kind_of error.now) result }
 {
     match message_of(alloc, error) {
-        Ok(message) => answer_by(alloc, error.kind(), &message),
+        Ok(message) => answer_by(alloc, program, error.kind(), &message),
         Err(_) => Answer::NoMemory,
     }
 }
@@ -95,7 +95,7 @@ fn may_go_on(kind: ErrorKind, message: &str) -> bool {
 }
 
 // What an error of the beginning of the words says, unless they may go on after it.
-fn settled_answer<'a>(alloc: Global, error: &Error) -> Option<Answer<'a>>
+fn settled_answer<'a>(alloc: Global, program: &Program<'a>, error: &Error) -> Option<Answer<'a>>
     ensures { IfSome result (AnswersError (kind_of error.now)) }
 {
     match message_of(alloc, error) {
@@ -103,7 +103,7 @@ fn settled_answer<'a>(alloc: Global, error: &Error) -> Option<Answer<'a>>
             if may_go_on(error.kind(), &message) {
                 None
             } else {
-                Some(answer_by(alloc, error.kind(), &message))
+                Some(answer_by(alloc, program, error.kind(), &message))
             }
         }
         Err(_) => Some(Answer::NoMemory),
@@ -131,7 +131,7 @@ fn refusal_of<'a>(alloc: Global, program: &Program<'a>, words: &'a [String]) -> 
 {
     match matched(alloc, program, words) {
         Ok(_) => None,
-        Err(error) => settled_answer(alloc, &error),
+        Err(error) => settled_answer(alloc, program, &error),
     }
 }
 
@@ -166,7 +166,7 @@ fn first_refusal<'a>(
             return answer;
         }
     }
-    answer_of(alloc, error)
+    answer_of(alloc, program, error)
 }
 
 // Why clap refuses words.

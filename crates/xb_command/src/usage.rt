@@ -109,7 +109,7 @@ fn push_usage(out: &mut Vec<u8>, program: &Program<'_>) -> Result<(), AllocError
 }
 
 // The numbers that an option takes.
-fn range_text(alloc: Global, least: u32, most: u32) -> Result<String, AllocError>
+pub(crate) fn range_text(alloc: Global, least: u32, most: u32) -> Result<String, AllocError>
     ensures { IfOk result (λ text. string_bytes text ≡ range_text least most) }
 {
     if most == u32::MAX {

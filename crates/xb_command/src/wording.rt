@@ -2,6 +2,8 @@
 ghost use Rattle.std.specs.Prelude.{◌≡◌, IfOk, map};
 ghost use Rattle.xb_command.specs.Answers.{IsOneLine, in_line};
 
+use crate::table::{Program, Value};
+use crate::usage::range_text;
 use std::alloc::{AllocError, Global};
 
 // A byte of a line: a control character is none.
@@ -22,24 +24,48 @@ pub(crate) fn line_of(alloc: Global, text: &[u8]) -> Result<Vec<u8>, AllocError>
     Ok(line)
 }
 
-// What clap says of a number, in plain words.
-fn in_plain_words(alloc: Global, text: &str) -> Result<String, AllocError> {
-    let joined = text.replace(alloc, "\n  ", " ")?;
-    let joined = joined.replace(
-        alloc,
-        "invalid digit found in string",
-        "a whole number is wanted",
-    )?;
-    let joined = joined.replace(
-        alloc,
+// What clap says, and what that is in plain words.
+const PLAIN: [(&str, &str); 7] = [
+    ("\n  ", " "),
+    ("unexpected argument '-", "there is no option '-"),
+    ("unexpected argument ", "there is one word too many, "),
+    ("' found", "'"),
+    ("cannot be used multiple times", "cannot be given twice"),
+    ("invalid digit found in string", "a whole number is wanted"),
+    (
         "cannot parse integer from empty string",
         "a whole number is wanted",
-    )?;
-    joined.replace(
-        alloc,
-        "number too large to fit in target type",
-        "the number is too large",
-    )
+    ),
+];
+
+// A message in plain words.
+fn in_plain_words(alloc: Global, text: &str) -> Result<String, AllocError> {
+    let mut plain = text.to_string(alloc)?;
+    for (theirs, ours) in &PLAIN {
+        plain = plain.replace(alloc, *theirs, *ours)?;
+    }
+    Ok(plain)
+}
+
+// Whether a message is of the value of this option.
+fn is_of(alloc: Global, message: &str, name: &str) -> Result<bool, AllocError> {
+    let option = format!(in alloc; "for '--{name} <")?;
+    Ok(message.contains(option.as_str()))
+}
+
+// The numbers that the option of a message takes, where it is of one that takes numbers and does not name them.
+fn range_in(alloc: Global, program: &Program<'_>, message: &str) -> Result<String, AllocError> {
+    if message.contains("..=") {
+        return Ok(String::new(alloc));
+    }
+    for word in program.words {
+        if let Value::Number(least, most) = word.value {
+            if is_of(alloc, message, word.name)? {
+                return range_text(alloc, least, most);
+            }
+        }
+    }
+    Ok(String::new(alloc))
 }
 
 // Whether a message is of a word that looks like a number below 0.
@@ -68,13 +94,18 @@ fn help_beside<'m>(message: &str, tips: &'m str) -> (&'static str, &'m str) {
 }
 
 /// Why clap refuses words, in one line: its message up to the first line that is empty, and what helps.
-pub(crate) fn reason_of(alloc: Global, message: &str) -> Result<Vec<u8>, AllocError>
+pub(crate) fn reason_of(
+    alloc: Global,
+    program: &Program<'_>,
+    message: &str,
+) -> Result<Vec<u8>, AllocError>
     ensures { IfOk result (λ line. IsOneLine line.items) }
 {
     let text = message.strip_prefix("error: ").unwrap_or(message);
     let (first, tips) = text.split_once("\n\n").unwrap_or((text.trim_end(), ""));
     let plain = in_plain_words(alloc, first)?;
+    let range = range_in(alloc, program, first)?;
     let (lead, tip) = help_beside(first, tips);
-    let whole = format!(in alloc; "{plain}{lead}{tip}")?;
+    let whole = format!(in alloc; "{plain}{range}{lead}{tip}")?;
     line_of(alloc, whole.as_bytes())
 }
