@@ -1,9 +1,12 @@
 """Makes a set of test signals with their answers, and judges receivers by it; see scripts/sweep."""
+import contextlib
 import hashlib
 import html
 import json
 import os
 import random
+import shutil
+import signal
 import subprocess
 import sys
 
@@ -104,12 +107,24 @@ def signals():
                 yield want, why, [] if want == MUST_NOT else keys, words(keys), options + seed
 
 
-def make(folder, mftone):
+@contextlib.contextmanager
+def made_in(folder):
+    """Makes a folder where there is none, and takes that away again where what is made in it does not come to its end."""
+    is_new = not os.path.isdir(folder)
     os.makedirs(folder, exist_ok=True)
-    if os.listdir(folder):
+    try:
+        yield
+    except BaseException:
+        if is_new:
+            shutil.rmtree(folder, ignore_errors=True)
+        raise
+
+
+def make(folder, mftone):
+    if os.path.isdir(folder) and os.listdir(folder):
         sys.exit(f"sweep: {folder} is not empty")
     counts = dict.fromkeys((MUST, MAY, MUST_NOT), 0)
-    with open(os.path.join(folder, "manifest.jsonl"), "w") as manifest:
+    with made_in(folder), open(os.path.join(folder, "manifest.jsonl"), "w") as manifest:
         for n, (want, why, keys, words, options) in enumerate(signals(), 1):
             name, command = f"{n:03}.wav", ["mftone", "--keys", words, *options]
             made = subprocess.run([mftone, *command[1:]], stdin=subprocess.DEVNULL, stdout=subprocess.PIPE, stderr=subprocess.PIPE)
@@ -207,5 +222,15 @@ def page_of(cells):
             + "</table>\n</html>\n")
 
 
+def work(works):
+    """Does the work that the first word names. What the machine refuses is one line."""
+    for it in (signal.SIGHUP, signal.SIGINT, signal.SIGTERM):
+        signal.signal(it, lambda number, _: sys.exit(128 + number))
+    try:
+        works[sys.argv[1]](*sys.argv[2:])
+    except OSError as error:
+        sys.exit(f"sweep: {error.filename or sys.argv[2]}: {error.strerror}")
+
+
 if __name__ == "__main__":
-    {"make": make, "judge": judge}[sys.argv[1]](*sys.argv[2:])
+    work({"make": make, "judge": judge})

@@ -12,7 +12,7 @@ import subprocess
 import sys
 
 sys.path.insert(0, os.path.dirname(os.path.abspath(__file__)))
-from sweep import MAY, MUST, MUST_NOT, page_of, print_table, told  # noqa: E402
+from sweep import MAY, MUST, MUST_NOT, made_in, page_of, print_table, told, work  # noqa: E402
 
 PULSE_MIN, PULSE_MAX, MAKE_MIN, PAUSE, RELEASE, TIMEOUT = 20, 119, 15, 180, 300, 20_000
 BITS = (1 << 64) - 1
@@ -406,11 +406,10 @@ def cases():
 
 def make(folder, mfdial):
     """Writes what mfdial sends of each case, and adds the cases to the manifest."""
-    os.makedirs(folder, exist_ok=True)
-    if any(it.startswith("dial") for it in os.listdir(folder)):
+    if os.path.isdir(folder) and any(it.startswith("dial") for it in os.listdir(folder)):
         sys.exit(f"sweep: {folder} has dials")
     counts = dict.fromkeys((MUST, MAY, MUST_NOT), 0)
-    with open(os.path.join(folder, "manifest.jsonl"), "a") as manifest:
+    with made_in(folder), open(os.path.join(folder, "manifest.jsonl"), "a") as manifest:
         for n, case in enumerate(cases(), 1):
             name = f"dial{n:03}.{'vcd' if case.dial.vcd else 'csv'}"
             made = subprocess.run([mfdial, *case.words], input=case.text().encode(), capture_output=True)
@@ -489,4 +488,4 @@ def judge(folder, mfhear, mfloop, *command):
 
 
 if __name__ == "__main__":
-    {"make": make, "judge": judge}[sys.argv[1]](*sys.argv[2:])
+    work({"make": make, "judge": judge})
