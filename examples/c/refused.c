@@ -158,8 +158,8 @@ static void try_texts_of(void)
     unwritten(mf_status_text(MF_SEIZED, text, 0), text, MF_NO_ROOM, "the text of a status, without room");
     check(mf_status_text(MF_SEIZED, text, 27) == MF_DONE && strcmp(text, "the line is seized already") == 0,
           "the text of a status");
-    for (unsigned status = 0; status < 100; status++)
-        check(mf_status_text((enum mf_status)status, text, MF_FAULT_ROOM) == MF_DONE && *text, "the text of any status");
+    for (int status = 0; status < 100; status++)
+        check(mf_status_text(status, text, MF_FAULT_ROOM) == MF_DONE && *text, "the text of any status");
 }
 
 /* A mark that is not played for this status: the samples are as they were. */

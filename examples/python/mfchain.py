@@ -150,10 +150,11 @@ def _is_number(value: int, most: int = 0xFFFFFFFF) -> bool:
 
 def _mark_of(mark: Mark) -> _Mark:
     """A mark as C takes it; what is none is one that C refuses."""
-    numbers = (mark.line, mark.value, mark.low, mark.high)
-    if mark.kind not in KINDS or not all(map(_is_number, numbers)):
-        return _Mark(kind=len(KINDS))
-    return _Mark(mark.line, KINDS.index(mark.kind), *numbers[1:])
+    if isinstance(mark, Mark) and mark.kind in KINDS:
+        numbers = mark._replace(kind=KINDS.index(mark.kind))
+        if all(map(_is_number, numbers)):
+            return _Mark(*numbers)
+    return _Mark(kind=len(KINDS))
 
 
 def _byte_of(digit: int) -> int:
@@ -245,10 +246,12 @@ class Office:
             count = self._library.mfchain_dialled(known, ctypes.addressof(digits))
         return list(digits[:count])
 
-    def route(self, digits: list) -> list:
-        """The marks of the number that digits complete, 0 to 9 each, on line 0: its keying, or its refusal. Digits after
-        it are not read. Raises `SignalError` where they complete none."""
+    def route(self, digits) -> list:
+        """The marks of the number that digits complete, a list of 0 to 9 each or a text as "2345678", on line 0: its
+        keying, or its refusal. Digits after it are not read. Raises `SignalError` where they complete none."""
         table, _, room, count = self._places
+        if isinstance(digits, str):
+            digits = [ord(character) - ord("0") for character in digits]
         given = bytes(map(_byte_of, digits))
         with self._lock:
             status = self._library.mfchain_route_number(table, given, len(given), room, MOST_MARKS, count)

@@ -320,8 +320,8 @@ static inline enum mf_status mf_sound(const mf_mark *mark, const mf_cadence *cad
 }
 
 /* The text of a status, which ends with a zero. MF_FAULT_ROOM is room for any; where there is less than it has, the
-   status is MF_NO_ROOM, and the text is as it was. */
-static inline enum mf_status mf_status_text(enum mf_status status, char *text, size_t room)
+   status is MF_NO_ROOM, and the text is as it was. The status is an int, since C++ makes no enum of one. */
+static inline enum mf_status mf_status_text(int status, char *text, size_t room)
 {
     if (!text)
         return MF_NULL;
