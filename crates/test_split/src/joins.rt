@@ -1,8 +1,8 @@
 // Words and files of pages in; a status, a page and lines of faults out.
 use std::alloc::Global;
 use std::test::Fail;
-use test_kit::{Folder, words_of};
-use xb_join::attend;
+use test_kit::{Folder, called, words_of};
+use xb_join::{PROGRAM, attend};
 
 const FIRST: &[u8] = b"0000 1 REFUSED UNKNOWN 3\n\
 0007 1 KEYED 0001 KP:1100+1700 0:1300+1500 ST:1500+1700\n\
@@ -19,8 +19,6 @@ const WHOLE: &[u8] = b"0000 1 REFUSED UNKNOWN 3\n\
 KEYED 2 REFUSED 2\n";
 
 const LIST: &[u8] = b"0000-4999.deck 0 4999 30\n5000-9999.deck 5000 9999 20\n";
-
-const USAGE: &[u8] = b"mfjoin: usage: mfjoin [--list FILE] PAGE...\n";
 
 // The last page, with CR LF at the end of some lines.
 const LAST_OF_WINDOWS: &[u8] =
@@ -114,10 +112,19 @@ const CASES: &[(&[&str], u8, &[u8], &[u8])] = &[
         b"",
         b"mfjoin: no?such?[7m.page: entity not found\n",
     ),
-    (&[], 2, b"", USAGE),
-    (&["--list", "list"], 2, b"", USAGE),
-    (&["--lists", "list", "first"], 2, b"", USAGE),
-    (&["--help"], 2, b"", USAGE),
+    (
+        &["--lists", "list", "first"],
+        2,
+        b"",
+        b"mfjoin: there is no option '--lists'; a similar argument exists: '--list'; mfjoin --help says more\n",
+    ),
+    (
+        &["--list=", "first"],
+        2,
+        b"",
+        b"mfjoin: invalid value '' for '--list': a file is wanted; mfjoin --help says more\n",
+    ),
+    (&["--version"], 0, b"mfjoin 0.5\n", b""),
 ];
 
 #[test]
@@ -125,8 +132,14 @@ fn each_status(rt: HostRuntime) -> Result<(), Fail> {
     let alloc = rt.alloc();
     for (words, status, page, line) in CASES {
         let words = words_of(alloc, "mfjoin", words)?;
+        let call = called(&PROGRAM, &words);
+        let mut input = b"not read".as_slice();
         let (mut out, mut err) = (Vec::new(alloc), Vec::new(alloc));
-        assert_eq!(rt; attend(alloc, &words, &FOLDER, &mut out, &mut err), *status);
+        assert_eq!(rt;
+            attend(alloc, &call, &FOLDER, &mut input, &mut out, &mut err),
+            *status
+        );
+        assert_eq!(rt; input, b"not read".as_slice());
         assert_eq!(rt; out.as_slice(), *page);
         assert_eq!(rt; err.as_slice(), *line);
     }

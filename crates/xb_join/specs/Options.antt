@@ -1,11 +1,10 @@
 -- What the words of the command line ask for, as clap reads them.
-use Rattle.std.specs.Prelude.{◌≡◌, ◌≢◌, List, [], Option, codes, map, option_map, unwrap_or}
-use Rattle.clap.specs.Faults.{fault_of}
-use Rattle.clap.specs.Simple.{matches_of}
+use Rattle.std.specs.Prelude.{◌≡◌, List, [], Option, Some, codes, map, option_map, unwrap_or}
 use Rattle.clap.specs.Walk.{Row, Text, all_of, first_of}
-use Rattle.xb_command.specs.Given.{IsTaken}
+use Rattle.xb_command.specs.Answers.{Takes}
+use Rattle.xb_command.specs.declared.asking.Misfit.{Misfit}
+use Rattle.xb_command.specs.declared.table.Call.{Call}
 use Rattle.xb_join.specs.declared.words.Request.{Request}
-use Rattle.xb_join.specs.Rules.{command_of_words}
 
 -- the file of the list that a request names, and those of its pages
 abbrev pub list_of : Request → Option Text
@@ -14,15 +13,17 @@ list_of request = option_map (λ name. name.now) request.list
 abbrev pub pages_of : Request → List Text
 pages_of request = map (λ name. name.now) request.pages.items
 
--- what the rows of the matches say
+-- what clap matched says this request
 pub record Say (rows : List Row) (request : Request) : Type 0 where
   pub list : list_of request ≡ first_of (codes "list") rows
-  pub pages : pages_of request ≡ unwrap_or (all_of (codes "page") rows) []
+  pub pages : pages_of request ≡ unwrap_or (all_of (codes "PAGE") rows) []
 
--- clap takes the words, and they ask for this
-abbrev pub Asks : List Text → Request → Type 0
-Asks words request = IsTaken command_of_words words × Say (matches_of command_of_words words) request
+-- it says a list whose name is empty, and this names that option and value
+pub record IsNoFile (rows : List Row) (misfit : Misfit) : Type 0 where
+  pub list : first_of (codes "list") rows ≡ Some []
+  pub option : misfit.option.now ≡ codes "list"
+  pub value : misfit.value.now ≡ []
 
--- clap refuses the words
-abbrev pub AreRefused : List Text → Type 0
-AreRefused words = fault_of command_of_words words ≢ []
+-- the words of a call are taken, and say such a list
+abbrev pub NameNoFile : Call → Misfit → Type 0
+NameNoFile call misfit = (rows : List Row) × Takes call rows × IsNoFile rows misfit

@@ -1,40 +1,36 @@
--- What the program did, by its status.
-use Rattle.std.specs.Prelude.{ℕ, List, codes, None, Err, Ok}
+-- What the program does.
+use Rattle.std.specs.Prelude.{None, Some, Err, Ok}
 use Rattle.std.specs.Io.KnownBytes.{Keeps}
-use Rattle.clap.specs.Walk.{Text}
 use Rattle.xb_command.specs.Files.{Bytes}
-use Rattle.xb_command.specs.Programs.{Attends, Streams}
+use Rattle.xb_command.specs.Programs.{Streams}
 use Rattle.xb_command.specs.Telling.{Tells}
+use Rattle.xb_command.specs.Works.{AsksBy, Rules}
+use Rattle.xb_command.specs.declared.table.Program.{Program}
+use Rattle.xb_command.specs.declared.work.Source.TheVariants as source
 use Rattle.xb_join.specs.JoinedFiles.{Delivers}
-use Rattle.xb_join.specs.Options.{AreRefused, Asks}
+use Rattle.xb_join.specs.Options.{NameNoFile, Say}
 use Rattle.xb_join.specs.declared.fault.JoinFault.{JoinFault}
 use Rattle.xb_join.specs.declared.words.Request.{Request}
 
--- the program's name
-abbrev pub program : List ℕ
-program = codes "mfjoin"
-
--- the line for words that are refused
-abbrev pub usage_line : List ℕ
-usage_line = codes "mfjoin: usage: mfjoin [--list FILE] PAGE...\n"
-
--- the words name files, and exactly the page that these make was written
-pub record WritesPage (bytes : Bytes) (words : List Text) (old new : Streams) : Type 0 where
-  pub request : Request
-  pub asks : Asks words request
+-- exactly the page that the files make was written
+pub record WritesPage (request : Request) (bytes : Bytes) (old new : Streams) : Type 0 where
+  pub input : Keeps old.input new.input
   pub page : Delivers bytes request (Ok tt) old.output new.output
   pub quiet : Keeps old.errors new.errors
 
--- they name files that gave a fault, of which a line was told
-pub record HasFault (bytes : Bytes) (words : List Text) (old new : Streams) : Type 0 where
-  pub request : Request
+-- the files gave a fault, and a line says so
+pub record HasFault (request : Request) (program : Program) (bytes : Bytes) (old new : Streams) : Type 0 where
   pub fault : JoinFault
-  pub asks : Asks words request
+  pub input : Keeps old.input new.input
   pub page : Delivers bytes request (Err fault) old.output new.output
-  pub line : Tells program None old.errors new.errors
+  pub line : Tells program.name.now None old.errors new.errors
 
--- what the program did with its words, the files and its streams
-abbrev pub AttendsJoin : Bytes → List Text → Streams → Streams → ℕ → Type 0
-AttendsJoin bytes words old new status =
-    Attends program usage_line (WritesPage bytes words old new) (HasFault bytes words old new)
-    (AreRefused words) old new status
+-- what the words ask for, which value is refused, and what is done; the input is not read
+abbrev pub by_join : Rules Request
+by_join = record {
+  Asks = AsksBy Say (λ request. Some request);
+  Misfits = NameNoFile;
+  source = λ request. source.Input;
+  Done = λ request program bytes old new. WritesPage request bytes old new;
+  Fails = HasFault;
+}

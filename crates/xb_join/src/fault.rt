@@ -1,8 +1,8 @@
 // Why no page is written.
-use crate::name::InOneLine;
 use crate::parts_fault::PartsFault;
 use std::io;
 use thiserror::Error;
+use xb_command::InOneLine;
 use xb_model::RowFault;
 use xb_parts::ListFault;
 

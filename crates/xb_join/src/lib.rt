@@ -9,8 +9,9 @@
 //!   end, a damaged page, a page with a line of a later part, or the first line that no part has. `Joiner`:
 //!   the same, one page at a time.
 //! - `join` and `attend`, with status 0: exactly the page was written that the files make, by the ranges of
-//!   the list, or without a list by the lines that the pages take. With status 1: one line was told, and
-//!   nothing was written but the beginning of the page where a write failed.
+//!   the list, or without a list by the lines that the pages take; or help or the version, where the words ask
+//!   for these. With status 1: one line was told, and nothing was written but the beginning where a write failed.
+//!   The input is not read.
 //!
 //! What is said of a file holds for the bytes that the caller's `Files` says to be known.
 //!
@@ -23,7 +24,6 @@ mod given;
 mod joiner;
 mod joining;
 pub mod laws;
-mod name;
 mod pages;
 mod parts_fault;
 mod program;
@@ -36,4 +36,4 @@ pub use joining::join;
 pub use pages::{PartPage, join_pages, lines_taken};
 pub use parts_fault::PartsFault;
 pub use program::attend;
-pub use words::Request;
+pub use words::{PROGRAM, Request};

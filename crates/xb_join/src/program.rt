@@ -1,47 +1,70 @@
 // The program: its words and files in, a status and a page out.
-ghost use Rattle.std.specs.Prelude.{None};
+ghost use Rattle.std.specs.Prelude.{◌≡◌, true};
+ghost use Rattle.clap.specs.Faults.{is_simple_and_free};
 ghost use Rattle.xb_command.specs.Programs.{streams};
-ghost use Rattle.xb_command.specs.Commands.{texts_of};
-ghost use Rattle.xb_join.specs.Program.{AttendsJoin};
+ghost use Rattle.xb_command.specs.Tables.{command_by};
+ghost use Rattle.xb_command.specs.Works.{AttendsBy};
+ghost use Rattle.xb_join.specs.Program.{by_join};
 
 use crate::joining::join;
-use crate::words::request_of_words;
+use crate::words::{Request, misfit_of, request_of};
 use std::alloc::Global;
-use std::io::Write;
-use xb_command::{DONE, Files, tell_fault, tell_words};
+use std::io::{Read, Write};
+use xb_command::{Answer, Call, DONE, Files, Program, Source, Work, ask_words, tell_fault};
 
-// The program's name.
-pub(crate) const PROGRAM: &str = "mfjoin";
+impl<'a> Work<'a> for Request<'a> {
+    ghost use Rattle.xb_join.specs.Program.{by_join};
 
-// The line of refused words.
-const USAGE: &[u8] = b"mfjoin: usage: mfjoin [--list FILE] PAGE...\n";
+    ghost rules = { by_join };
 
-/// Reads the words of the command line, the program's name first, and by them writes the page of the whole,
-/// as `join` does. It returns the status of the process:
-///
-/// - `DONE`: the words name pages, `out` got exactly the page that they make, and `err` nothing;
-/// - `FAULT`: `join` has a fault, or memory ran out while the words were read; `err` gets the fault as one
-///   line, and `out` got nothing, or the beginning of the page where this was not written whole;
-/// - `WORDS_REFUSED`: the words are refused, or ask for help; `err` gets the usage as one line, no file is
-///   read and `out` got nothing.
-///
-/// A fault in writing to `err` changes no status.
-pub fn attend<F: Files, W: Write, E: Write>(
+    fn ask(alloc: Global, call: &Call<'a>) -> Result<Request<'a>, Answer<'a>> {
+        let words = match ask_words(alloc, call) {
+            Ok(words) => words,
+            Err(answer) => return Err(answer),
+        };
+        if let Some(misfit) = misfit_of(&words) {
+            return Err(Answer::Unfit(misfit));
+        }
+        match request_of(alloc, &words) {
+            Ok(request) => Ok(request),
+            Err(_) => Err(Answer::NoMemory),
+        }
+    }
+
+    fn source(&self) -> Source<'a> {
+        Source::Input
+    }
+
+    fn run<F: Files, R: Read, W: Write, E: Write>(
+        self,
+        alloc: Global,
+        program: &Program<'a>,
+        files: &F,
+        _input: &mut R,
+        out: &mut W,
+        err: &mut E,
+    ) -> u8 {
+        match join(alloc, files, &self, out) {
+            Ok(()) => DONE,
+            Err(fault) => tell_fault(alloc, err, program.name, fault),
+        }
+    }
+}
+
+/// Reads the words of the command line, and by them writes the page of the whole, as `join` does. It does not read the
+/// input, and returns the status of the process, as `attend` of `xb_command` says.
+pub fn attend<F: Files, R: Read, W: Write, E: Write>(
     alloc: Global,
-    words: &[String],
+    call: &Call<'_>,
     files: &F,
+    input: &mut R,
     out: &mut W,
     err: &mut E,
 ) -> u8
-    ensures { AttendsJoin (F.bytes files.now) (texts_of words.now)
-        (streams None (W.contents out.old) (E.contents err.old))
-        (streams None (W.contents out.new) (E.contents err.new)) result }
+    requires { is_simple_and_free (command_by call.now.program.now) ≡ true }
+    ensures { AttendsBy by_join call.now (F.bytes files.now)
+        (streams (R.remaining input.old) (W.contents out.old) (E.contents err.old))
+        (streams (R.remaining input.new) (W.contents out.new) (E.contents err.new)) result }
 {
-    match request_of_words(alloc, words) {
-        Ok(request) => match join(alloc, files, &request, out) {
-            Ok(()) => DONE,
-            Err(fault) => tell_fault(alloc, err, PROGRAM, fault),
-        },
-        Err(fault) => tell_words(err, PROGRAM, USAGE, fault),
-    }
+    xb_command::attend::<Request<'_>, F, R, W, E>(alloc, call, files, input, out, err)
 }

@@ -1,12 +1,43 @@
-// What the words of the command line ask for.
-ghost use Rattle.std.specs.Prelude.{◌≡◌, IfErr, IfOk, [], codes, map, unwrap_or};
+// The words of the program, and what they ask for.
+ghost use Rattle.std.specs.Prelude.{◌≡◌, IfOk, IfSome, [], codes, map, unwrap_or};
 ghost use Rattle.clap.specs.Walk.{all_of};
-ghost use Rattle.xb_command.specs.Commands.{texts_of};
-ghost use Rattle.xb_join.specs.Options.{AreRefused, Asks};
+ghost use Rattle.xb_join.specs.Options.{IsNoFile, Say};
 
-use crate::program::PROGRAM;
 use std::alloc::{AllocError, Global};
-use xb_command::{Takes, Words, WordsFault, read_words};
+use xb_command::{FLAG, Misfit, Program, Value, Word, Words};
+
+/// The program and its words.
+pub const PROGRAM: Program<'static> = Program {
+    name: "mfjoin",
+    about: "Prints the page that the pages of parts make together: their entries, part by part, and a line with the
+sums of their totals. Each PAGE is a file that mfbank printed; they are named in the order of their lines, as
+FOLDER/*.page gives them. All are checked before anything is printed: one that is damaged, cut off, out of its
+order or of lines that an earlier one has had is named.
+
+    mfjoin --list day.parts/parts.txt day.parts/*.page > day.page
+
+The status is 0 for a page, 1 for a fault, 2 where the words are refused, and 141 where the reader of the page
+goes away.",
+    words: &[
+        Word {
+            name: "list",
+            value: Value::Text,
+            shown: "FILE",
+            help: "the list of parts that mfsplit wrote: each part then has to have its page, and no line but its
+        own, so that one that is missing is named too",
+            ..FLAG
+        },
+        Word {
+            name: "PAGE",
+            value: Value::AllThatFollow,
+            help: "the page of a part, a file; at least one",
+            ..FLAG
+        },
+    ],
+    reads: None,
+    writes_sound: false,
+    usage: "",
+};
 
 /// What is joined.
 #[derive(Drop)]
@@ -17,30 +48,36 @@ pub struct Request<'a> {
     pub pages: Vec<&'a str>,
 }
 
-// The options of the program, and its words that stand alone, each under its name.
-const OPTIONS: [(&str, Takes); 2] = [("list", Takes::Text), ("page", Takes::AllThatFollow)];
-
 // The words that stand alone.
 fn pages_given<'a>(alloc: Global, words: &Words<'a>) -> Result<Vec<&'a str>, AllocError>
-    ensures { let given = unwrap_or (all_of (codes "page") words.now) [] in
+    ensures { let given = unwrap_or (all_of (codes "PAGE") words.now) [] in
         IfOk result (λ pages. map (λ name. name.now) pages.items ≡ given) }
 {
     let mut pages = Vec::new(alloc);
-    pages.extend_from_slice(words.texts("page").unwrap_or(&[]))?;
+    pages.extend_from_slice(words.texts("PAGE").unwrap_or(&[]))?;
     Ok(pages)
 }
 
-/// What the words ask for: the pages, in their order, and the list, if there is one.
-pub fn request_of_words<'a>(alloc: Global, words: &'a [String]) -> Result<Request<'a>, WordsFault>
-    ensures asks { IfOk result (λ request. Asks (texts_of words.entry.now) request) }
-    ensures refused { IfErr result (λ f. f ≡ WordsFault.Refused → AreRefused (texts_of words.entry.now)) }
+// What the words say.
+pub(crate) fn request_of<'a>(alloc: Global, words: &Words<'a>) -> Result<Request<'a>, AllocError>
+    ensures { IfOk result (Say words.now) }
 {
-    let words = read_words(alloc, PROGRAM, &OPTIONS, words)?;
-    match pages_given(alloc, &words) {
-        Ok(pages) => Ok(Request {
-            list: words.text("list"),
-            pages,
+    Ok(Request {
+        list: words.text("list"),
+        pages: pages_given(alloc, words)?,
+    })
+}
+
+// The name of a list that is empty, if it is.
+pub(crate) fn misfit_of<'a>(words: &Words<'a>) -> Option<Misfit<'a>>
+    ensures { IfSome result (IsNoFile words.now) }
+{
+    match words.text("list") {
+        Some("") => Some(Misfit {
+            option: "list",
+            value: "",
+            reason: "a file is wanted",
         }),
-        Err(_) => Err(WordsFault::NoMemory),
+        _ => None,
     }
 }
