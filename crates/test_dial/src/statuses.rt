@@ -2,9 +2,9 @@
 use std::alloc::{AllocError, Global};
 use std::io::ErrorKind;
 use std::test::Fail;
-use test_kit::{Halting, Short, words_of};
+use test_kit::{Folder, Halting, Short, called, words_of};
 use xb_command::{Pipe, READER_GONE};
-use xb_dial::attend;
+use xb_dial::{PROGRAM, attend};
 
 // The words after the program's name, the calls, the status, and what stands on standard output and on
 // standard error.
@@ -16,9 +16,11 @@ type Case = (
     &'static [u8],
 );
 
-const USAGE: &[u8] = b"mfdial: usage: mfdial [--speed 10|20] [--break N] [--make N] [--pause N] \
-[--seize N] [--hang-up N] [--slow N] [--jitter N] [--fault PLACE:WHAT,..] [--beyond] \
-[--vcd] [--bounce N] [--seed N] [--plan 7|10] [--in-turn] [--any]\n";
+// Calls, and the same in UTF-16.
+const FILES: Folder = Folder(&[
+    ("calls.txt", b"7 1\n"),
+    ("wide.txt", b"\xff\xfe7\0 \01\0\n\0"),
+]);
 
 const CASES: &[Case] = &[
     (&[], b"", 0, b"line,state,ms\n", b""),
@@ -188,23 +190,162 @@ const CASES: &[Case] = &[
         b"",
         b"mfdial: text line 1 has a number that goes on after it is complete\n",
     ),
+    // a file in place of the input, which is left alone
+    (&["--any", "calls.txt"], b"x", 0, SEVEN_ONE, b""),
+    (&["--any", "-"], b"7 1", 0, SEVEN_ONE, b""),
+    (
+        &["none.txt"],
+        b"7 0",
+        1,
+        b"",
+        b"mfdial: none.txt: entity not found\n",
+    ),
+    (
+        &["wide.txt"],
+        b"7 0",
+        1,
+        b"",
+        b"mfdial: wide.txt: it is UTF-16, and UTF-8 is taken: iconv -f UTF-16 -t UTF-8 makes that of it\n",
+    ),
+    (&["--version"], b"7 0", 0, b"mfdial 0.5\n", b""),
     // refused words
-    (&["--speed", "15"], b"7 0", 2, b"", USAGE),
-    (&["--plan", "8"], b"7 0", 2, b"", USAGE),
-    (&["--break", "x"], b"7 0", 2, b"", USAGE),
-    (&["--help"], b"7 0", 2, b"", USAGE),
-    (&["calls.txt"], b"7 0", 2, b"", USAGE),
-    (&["--break", "4294967296"], b"7 0", 2, b"", USAGE),
-    (&["--fault", "1.1:break=130"], b"7 0", 2, b"", USAGE),
-    (&["--fault", "1.1.1:break=0"], b"7 0", 2, b"", USAGE),
-    (&["--fault", "1.1.1:lost,"], b"7 0", 2, b"", USAGE),
-    (&["--fault", "1.1.1:longer"], b"7 0", 2, b"", USAGE),
-    (&["--bounce", "3000"], b"7 0", 2, b"", USAGE),
-    (&["--vcd", "--bounce", "7"], b"7 0", 2, b"", USAGE),
-    (&["--seed", "1"], b"7 0", 2, b"", USAGE),
-    (&["--slow", "1001"], b"7 0", 2, b"", USAGE),
-    (&["--vcd", "--in-turn"], b"7 0", 2, b"", USAGE),
+    (
+        &["--speed", "15"],
+        b"7 0",
+        2,
+        b"",
+        b"mfdial: invalid value '15' for '--speed <N>' [possible values: 10, 20]; mfdial --help says more\n",
+    ),
+    (
+        &["--plan", "8"],
+        b"7 0",
+        2,
+        b"",
+        b"mfdial: invalid value '8' for '--plan <N>' [possible values: 7, 10]; mfdial --help says more\n",
+    ),
+    (
+        &["--break", "x"],
+        b"7 0",
+        2,
+        b"",
+        b"mfdial: invalid value 'x' for '--break <MS>': a whole number is wanted, from 0; mfdial --help says more\n",
+    ),
+    (
+        &["--break", "4294967296"],
+        b"7 0",
+        2,
+        b"",
+        b"mfdial: invalid value '4294967296' for '--break <MS>': 4294967296 is not in 0..=4294967295; mfdial --help says more\n",
+    ),
+    (
+        &["calls.txt", "wide.txt"],
+        b"7 0",
+        2,
+        b"",
+        b"mfdial: there is one word too many, 'wide.txt'; mfdial --help says more\n",
+    ),
+    (
+        &["--fault", "1.1:break=130"],
+        b"7 0",
+        2,
+        b"",
+        b"mfdial: invalid value '1.1:break=130' for '--fault': break, lost and extra are of a pulse, as in 1.3.2:lost; mfdial --help says more\n",
+    ),
+    (
+        &["--fault", "1.1.1:break=0"],
+        b"7 0",
+        2,
+        b"",
+        b"mfdial: invalid value '1.1.1:break=0' for '--fault': a whole number of ms from 1 to 86400000 is wanted after =; mfdial --help says more\n",
+    ),
+    (
+        &["--fault", "1.1.1:lost,"],
+        b"7 0",
+        2,
+        b"",
+        b"mfdial: invalid value '1.1.1:lost,' for '--fault': a place, : and a fault are wanted, as in 1.3.2:lost; mfdial --help says more\n",
+    ),
+    (
+        &["--fault", "1.1.1:lost,1.1:longer,x"],
+        b"7 0",
+        2,
+        b"",
+        b"mfdial: invalid value '1.1:longer' for '--fault': lost, extra, break=MS, pause=MS, flash=MS or preliminary=MS is wanted after :; mfdial --help says more\n",
+    ),
+    (
+        &["--fault", "1.1.1:lost=1"],
+        b"7 0",
+        2,
+        b"",
+        b"mfdial: invalid value '1.1.1:lost=1' for '--fault': lost and extra have no value; mfdial --help says more\n",
+    ),
+    (
+        &["--fault", "1.1:flash"],
+        b"7 0",
+        2,
+        b"",
+        b"mfdial: invalid value '1.1:flash' for '--fault': = and ms are wanted after it, as in 1.3.2:break=130; mfdial --help says more\n",
+    ),
+    (
+        &["--fault", "1..1:lost"],
+        b"7 0",
+        2,
+        b"",
+        b"mfdial: invalid value '1..1:lost' for '--fault': the number of a call, a digit or a pulse is wanted before :, as 1, 1.3 or 1.3.2; mfdial --help says more\n",
+    ),
+    (
+        &["--fault", "1:pause=600"],
+        b"7 0",
+        2,
+        b"",
+        b"mfdial: invalid value '1:pause=600' for '--fault': pause and flash come after a digit, as in 1.3:pause=700; mfdial --help says more\n",
+    ),
+    (
+        &["--fault", "1.1:preliminary=30"],
+        b"7 0",
+        2,
+        b"",
+        b"mfdial: invalid value '1.1:preliminary=30' for '--fault': preliminary comes before a call, as in 1:preliminary=30; mfdial --help says more\n",
+    ),
+    (
+        &["--bounce", "3000"],
+        b"7 0",
+        2,
+        b"",
+        b"mfdial: --bounce wants --vcd; mfdial --help says more\n",
+    ),
+    (
+        &["--vcd", "--bounce", "7"],
+        b"7 0",
+        2,
+        b"",
+        b"mfdial: invalid value '7' for '--bounce <US>': 7 is not in 8..=100000; mfdial --help says more\n",
+    ),
+    (
+        &["--seed", "1"],
+        b"7 0",
+        2,
+        b"",
+        b"mfdial: --seed wants --jitter or --bounce; mfdial --help says more\n",
+    ),
+    (
+        &["--slow", "1001"],
+        b"7 0",
+        2,
+        b"",
+        b"mfdial: invalid value '1001' for '--slow <PERCENT>': 1001 is not in 0..=1000; mfdial --help says more\n",
+    ),
+    (
+        &["--vcd", "--in-turn"],
+        b"7 0",
+        2,
+        b"",
+        b"mfdial: --in-turn and --vcd do not go together; mfdial --help says more\n",
+    ),
 ];
+
+// 1 on line 7.
+const SEVEN_ONE: &[u8] = b"line,state,ms\n7,M,500\n7,B,60\n7,M,600\n";
 
 // 212 5551 on line 7.
 const SEVEN_DIGITS: &[u8] = b"line,state,ms
@@ -224,7 +365,8 @@ fn gives_each_status(rt: HostRuntime) -> Result<(), Fail> {
         let mut reader = *calls;
         let mut out = Vec::new(rt.alloc());
         let mut err = Vec::new(rt.alloc());
-        let got = attend(rt.alloc(), &words, &mut reader, &mut out, &mut err);
+        let call = called(&PROGRAM, &words);
+        let got = attend(rt.alloc(), &call, &FILES, &mut reader, &mut out, &mut err);
         assert_eq!(rt; got, *status, "{words:?}, {}", calls.escape_ascii());
         assert!(rt;
             out.as_slice() == *rows,
@@ -248,7 +390,8 @@ fn fails_where_the_calls_fail(rt: HostRuntime) -> Result<(), Fail> {
         let mut reader = Halting::failing(calls, 4, place, ErrorKind::Interrupted);
         let mut out = Vec::new(rt.alloc());
         let mut err = Vec::new(rt.alloc());
-        let got = attend(rt.alloc(), &words, &mut reader, &mut out, &mut err);
+        let call = called(&PROGRAM, &words);
+        let got = attend(rt.alloc(), &call, &FILES, &mut reader, &mut out, &mut err);
         assert_eq!(rt; got, 1, "{place}");
         assert!(rt; out.is_empty(), "{place}");
         let line = b"mfdial: the calls could not be read\n".as_slice();
@@ -265,7 +408,8 @@ fn writes_the_beginning_where_the_rows_fail(rt: HostRuntime) -> Result<(), Fail>
         let mut out = Short::new(rt.alloc(), room, Some(ErrorKind::Other));
         out.flush = Some(ErrorKind::Other);
         let mut err = Vec::new(rt.alloc());
-        let got = attend(rt.alloc(), &words, &mut calls, &mut out, &mut err);
+        let call = called(&PROGRAM, &words);
+        let got = attend(rt.alloc(), &call, &FILES, &mut calls, &mut out, &mut err);
         assert_eq!(rt; got, 1, "{room}");
         assert!(rt; out.taken.as_slice() == &SEVEN_DIGITS[..room], "{room}");
         let line = b"mfdial: the rows could not be written\n".as_slice();
@@ -283,7 +427,8 @@ fn told_where_rows_fail(alloc: Global, kind: ErrorKind) -> Result<(u8, Vec<u8>),
     let mut out = pipe.output(Short::new(alloc, 20, Some(kind)));
     let status = attend(
         alloc,
-        &words,
+        &called(&PROGRAM, &words),
+        &FILES,
         &mut calls,
         &mut out,
         &mut pipe.errors(&mut err),

@@ -1,2 +1,3 @@
 pub mod SoundDials
 pub mod Delivered
+pub mod Unfit

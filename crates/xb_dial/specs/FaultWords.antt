@@ -1,7 +1,10 @@
 -- The faults of a dial that a word says.
-use Rattle.std.specs.Prelude.{ℕ, ◌-◌, ◌^◌, ◌&&◌, List, [], ◌∷◌, ◌++◌, Option, Some, None, bytes_eq, codes, nat_le, option_map, if◌then◌else◌}
+use Rattle.std.specs.Prelude.{ℕ, ◌≡◌, ◌-◌, ◌^◌, ◌&&◌, List, [], ◌∷◌, ◌++◌, Option, Some, None, bytes_eq, codes, nat_le, option_map, if◌then◌else◌}
 use Rattle.std.specs.Option.{option_and_then}
 use Rattle.clap.specs.Walk.{Text}
+use Rattle.xb_command.specs.declared.asking.Answer.{Answer}
+use Rattle.xb_command.specs.declared.asking.Answer.TheVariants as answer
+use Rattle.xb_command.specs.declared.asking.Misfit.{Misfit}
 use Rattle.xb_contact.specs.Numbers.{number_of}
 use Rattle.xb_model.specs.declared.row.TheConstants.{GREATEST_MS}
 use Rattle.xb_text.specs.Pieces.{cut_at, pieces}
@@ -107,3 +110,12 @@ faults_after faults (word ∷ words) =
 abbrev pub faults_said : Option Text → Option (List Fault)
 faults_said None = Some []
 faults_said (Some text) = faults_after [] (pieces comma text)
+
+-- a text says no faults, and this is said of the option; or memory ran out
+abbrev pub AreNoFaults : Option Text → Misfit → Type 0
+AreNoFaults text misfit = (faults_said text ≡ None) × (misfit.option.now ≡ codes "fault")
+
+abbrev pub IsNoFaults : Option Text → Answer → Type 0
+IsNoFaults text answer.NoMemory = Unit {0}
+IsNoFaults text (answer.Unfit misfit) = AreNoFaults text misfit
+IsNoFaults text _ = ⊥

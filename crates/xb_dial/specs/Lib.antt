@@ -3,4 +3,3 @@ pub mod Faults
 pub mod Options
 pub mod Printed
 pub mod Program
-pub mod Rules

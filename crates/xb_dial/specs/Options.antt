@@ -1,26 +1,29 @@
 -- What the words of the command line ask for, as clap reads them.
-use Rattle.std.specs.Prelude.{ℕ, ◌≡◌, ◌≢◌, ◌⊎◌, ◌==◌, ◌&&◌, ◌||◌, Bool, true, false, List, [], Option, Some, None, codes, is_none, is_some, option_and_then, option_map, if◌then◌else◌}
+use Rattle.std.specs.Prelude.{ℕ, ◌≡◌, ◌⊎◌, ◌==◌, ◌&&◌, ◌||◌, Bool, true, false, List, Option, Some, None, codes, is_none, is_some, option_and_then, option_map, if◌then◌else◌}
 use Rattle.std.specs.Option.{unwrap_or}
-use Rattle.clap.specs.Faults.{fault_of}
-use Rattle.clap.specs.Simple.{matches_of}
-use Rattle.clap.specs.Walk.{Row, Text, first_of}
-use Rattle.xb_command.specs.Given.{IsTaken, ReadsFlag, ReadsNumber, given_by}
+use Rattle.clap.specs.Walk.{Row, first_of}
+use Rattle.xb_command.specs.Answers.{Takes}
+use Rattle.xb_command.specs.Given.{ReadsFlag, ReadsNumber, given_by}
+use Rattle.xb_command.specs.declared.asking.Answer.{Answer}
+use Rattle.xb_command.specs.declared.asking.Answer.TheVariants as answer
+use Rattle.xb_command.specs.declared.asking.Misfit.{Misfit}
+use Rattle.xb_command.specs.declared.table.Call.{Call}
 use Rattle.xb_model.specs.Plans.{plan_of_digits}
 use Rattle.xb_calls.specs.declared.order.RowOrder.TheVariants.{ByLine, InTurn}
 use Rattle.xb_calls.specs.declared.speed.Speed.{Speed}
 use Rattle.xb_calls.specs.Speeds.{speed_of, ten_pulses_a_second, twenty_pulses_a_second}
 use Rattle.xb_trace.specs.declared.bouncing.Bouncing.{Bouncing}
 use Rattle.xb_worn.specs.declared.wear.Wear.{Wear}
+use Rattle.xb_dial.specs.declared.request.Asked.{Asked}
 use Rattle.xb_dial.specs.declared.request.Form.{Form}
 use Rattle.xb_dial.specs.declared.request.Form.TheVariants.{Rows, Trace}
 use Rattle.xb_dial.specs.declared.request.Manner.{Manner}
-use Rattle.xb_dial.specs.declared.request.Request.{Request}
 use Rattle.xb_dial.specs.declared.words.Options.{Options}
-use Rattle.xb_dial.specs.FaultWords.{faults_said, in_range}
-use Rattle.xb_dial.specs.Rules.{command_of_words}
+use Rattle.xb_dial.specs.FaultWords.{AreNoFaults, faults_said, in_range}
 
 -- what clap matched says these options
 pub record SayOptions (rows : List Row) (options : Options) : Type 0 where
+  pub calls : option_map (λ text. text.now) options.calls ≡ first_of (codes "CALLS") rows
   pub speed : ReadsNumber (given_by rows (codes "speed")) options.speed
   pub break_ms : ReadsNumber (given_by rows (codes "break")) options.break_ms
   pub make_ms : ReadsNumber (given_by rows (codes "make")) options.make_ms
@@ -95,22 +98,31 @@ manner_of options =
     (standard_speed (unwrap_or options.speed 10))
 
 -- what clap matched says this
-pub record Say (rows : List Row) (request : Request) : Type 0 where
+pub record Say (rows : List Row) (asked : Asked) : Type 0 where
   pub options : Options
   pub says : SayOptions rows options
-  pub manner : manner_of options ≡ Some request.manner
-  pub faults : faults_said (first_of (codes "fault") rows) ≡ Some request.faults.items
+  pub calls : asked.calls ≡ options.calls
+  pub manner : manner_of options ≡ Some asked.request.manner
+  pub faults : faults_said (first_of (codes "fault") rows) ≡ Some asked.request.faults.items
 
--- what clap matched says nothing that there is: options that ask for nothing, or faults that are none
-abbrev pub SayNothing : List Row → Type 0
-SayNothing rows =
-    ((options : Options) × SayOptions rows options × (manner_of options ≡ None))
-    ⊎ (faults_said (first_of (codes "fault") rows) ≡ None)
+-- what clap matched says options that ask for nothing
+abbrev pub AskNothing : List Row → Type 0
+AskNothing rows = (options : Options) × SayOptions rows options × (manner_of options ≡ None)
 
--- clap takes the words, and they ask for this
-abbrev pub Asks : List Text → Request → Type 0
-Asks words request = IsTaken command_of_words words × Say (matches_of command_of_words words) request
+-- why what clap matched says nothing that there is: its options ask for nothing, its faults are none, or memory ran out
+abbrev pub IsNothing : List Row → Answer → Type 0
+IsNothing rows answer.NoMemory = Unit {0}
+IsNothing rows (answer.Unfit misfit) = AskNothing rows ⊎ AreNoFaults (first_of (codes "fault") rows) misfit
+IsNothing rows _ = ⊥
 
--- clap refuses the words, a request for help too, or they say nothing that there is
-abbrev pub AreRefused : List Text → Type 0
-AreRefused words = (fault_of command_of_words words ≢ []) ⊎ SayNothing (matches_of command_of_words words)
+-- the words of a call are taken, and ask for this
+pub record Asks (call : Call) (asked : Asked) : Type 0 where
+  pub rows : List Row
+  pub takes : Takes call rows
+  pub says : Say rows asked
+
+-- they are taken, and this is why they ask for nothing
+pub record IsUnfit (call : Call) (misfit : Misfit) : Type 0 where
+  pub rows : List Row
+  pub takes : Takes call rows
+  pub says : IsNothing rows (answer.Unfit misfit)

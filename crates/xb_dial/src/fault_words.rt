@@ -1,10 +1,10 @@
 // The faults of a dial that a word says.
-ghost use Rattle.std.specs.Prelude.{◌≡◌, ◌∷◌, ◌++◌, [], IfErr, IfOk, None, Some, option_map};
+ghost use Rattle.std.specs.Prelude.{◌≡◌, ◌∷◌, ◌++◌, [], IfErr, IfOk, None, Some, codes, option_map};
 ghost use Rattle.xb_text.specs.Pieces.{pieces};
-ghost use Rattle.xb_dial.specs.FaultWords.{fault_of, fault_said, faults_after, faults_said, kind_said, lasting, number_said, place_in_call, place_said, said_with_ms, said_without_ms};
+ghost use Rattle.xb_dial.specs.FaultWords.{IsNoFaults, fault_of, fault_said, faults_after, faults_said, kind_said, lasting, number_said, place_in_call, place_said, said_with_ms, said_without_ms};
 
 use std::alloc::Global;
-use xb_command::WordsFault;
+use xb_command::{Answer, Misfit};
 use xb_contact::number_of;
 use xb_model::GREATEST_MS;
 use xb_text::{cut_at, first_piece};
@@ -154,18 +154,83 @@ fn fault_said(word: &[u8]) -> Option<Fault>
     fault_of(place_said(place)?, kind_said(kind)?)
 }
 
+// What is said of a word without a fault that there is.
+const KINDS: &str = "lost, extra, break=MS, pause=MS, flash=MS or preliminary=MS is wanted after :";
+
+// Why a word does not say what a fault does.
+fn reason_of_kind(text: &[u8]) -> &'static str {
+    let (name, has_value) = match cut_at(b'=', text) {
+        None => (text, false),
+        Some((name, _)) => (name, true),
+    };
+    match (said_without_ms(name), said_with_ms(name, 1), has_value) {
+        (Some(_), _, true) => "lost and extra have no value",
+        (_, Some(_), false) => "= and ms are wanted after it, as in 1.3.2:break=130",
+        (_, Some(_), true) => "a whole number of ms from 1 to 86400000 is wanted after =",
+        _ => KINDS,
+    }
+}
+
+// Why such a fault is not at a place that there is.
+fn reason_of_place(kind: Kind) -> &'static str {
+    match kind {
+        Kind::Break(_) | Kind::Lost | Kind::Extra => {
+            "break, lost and extra are of a pulse, as in 1.3.2:lost"
+        }
+        Kind::Pause(_) | Kind::Flash(_) => {
+            "pause and flash come after a digit, as in 1.3:pause=700"
+        }
+        Kind::Preliminary(_) => "preliminary comes before a call, as in 1:preliminary=30",
+    }
+}
+
+// Why a word says no fault.
+fn reason_of(word: &[u8]) -> &'static str {
+    let Some((place, kind)) = cut_at(b':', word) else {
+        return "a place, : and a fault are wanted, as in 1.3.2:lost";
+    };
+    if place_said(place).is_none() {
+        return "the number of a call, a digit or a pulse is wanted before :, as 1, 1.3 or 1.3.2";
+    }
+    match kind_said(kind) {
+        Some(kind) => reason_of_place(kind),
+        None => reason_of_kind(kind),
+    }
+}
+
+// What is shown of a text with such a word: the word, or where it names no place the whole.
+fn shown_of<'a>(word: &'a [u8], text: &'a str) -> &'a str {
+    match str::from_utf8(word) {
+        Ok(word) if word.contains(':') => word,
+        _ => text,
+    }
+}
+
+// What is said of a text with a word that is no fault.
+fn misfit_of<'a>(word: &'a [u8], text: &'a str) -> Misfit<'a>
+    ensures { result.option.now ≡ codes "fault" }
+{
+    Misfit {
+        option: "fault",
+        value: shown_of(word, text),
+        reason: reason_of(word),
+    }
+}
+
 // The faults of a text, between commas.
-fn faults_of(alloc: Global, text: &[u8]) -> Result<Vec<Fault>, WordsFault>
-    ensures said { IfOk result (λ faults. faults_after [] (pieces 44 text.now) ≡ Some faults.items) }
-    ensures none { IfErr result (λ f. f ≡ WordsFault.Refused → faults_after [] (pieces 44 text.now) ≡ None) }
+fn faults_of<'a>(alloc: Global, text: &'a str) -> Result<Vec<Fault>, Answer<'a>>
+    ensures said { IfOk result (λ faults. faults_after [] (pieces 44 text.entry.now) ≡ Some faults.items) }
+    ensures none { IfErr result (IsNoFaults (Some text.entry.now)) }
 {
     let mut faults = Vec::new(alloc);
-    let mut left = Some(text);
-    while let Some(text) = left {
-        let (word, later) = first_piece(b',', text);
-        let fault = fault_said(word).ok_or(WordsFault::Refused)?;
+    let mut left = Some(text.as_bytes());
+    while let Some(words) = left {
+        let (word, later) = first_piece(b',', words);
+        let Some(fault) = fault_said(word) else {
+            return Err(Answer::Unfit(misfit_of(word, text)));
+        };
         if faults.push(fault).is_err() {
-            return Err(WordsFault::NoMemory);
+            return Err(Answer::NoMemory);
         }
         left = later;
     }
@@ -173,15 +238,18 @@ fn faults_of(alloc: Global, text: &[u8]) -> Result<Vec<Fault>, WordsFault>
 }
 
 /// The faults that the text of an option says, between commas, as `1.3.2:break=130,2:preliminary=30`: none, where the
-/// option is not there. `Refused` where a word is no fault. Whether its place is there is no matter of words.
-pub(crate) fn faults_said(alloc: Global, text: Option<&str>) -> Result<Vec<Fault>, WordsFault>
+/// option is not there. `Unfit` where a word is no fault. Whether its place is there is no matter of words.
+pub(crate) fn faults_said<'a>(
+    alloc: Global,
+    text: Option<&'a str>,
+) -> Result<Vec<Fault>, Answer<'a>>
     ensures said { let named = option_map (λ text. text.now) text.entry in
         IfOk result (λ faults. faults_said named ≡ Some faults.items) }
     ensures none { let named = option_map (λ text. text.now) text.entry in
-        IfErr result (λ f. f ≡ WordsFault.Refused → faults_said named ≡ None) }
+        IfErr result (IsNoFaults named) }
 {
     match text {
         None => Ok(Vec::new(alloc)),
-        Some(text) => faults_of(alloc, text.as_bytes()),
+        Some(text) => faults_of(alloc, text),
     }
 }

@@ -9,13 +9,12 @@
 //! - On `Write` the writer got the beginning, on any other fault nothing, and the fault is so of the calls and
 //!   the request (`IsFaultOfCalls`). Unless any speed is taken, the speed is judged before the calls: every
 //!   result but a fault of the speed comes only of one that fits the standard limits.
-//! - `attend`: `Attends` of this. `laws::usage_names_each_option`.
+//! - `attend`: `AttendsBy` of this, beginning at the words as they are typed.
 #![tactic(auto)]
 
 mod dialling;
 mod fault;
 mod fault_words;
-pub mod laws;
 mod program;
 mod request;
 mod words;
@@ -23,4 +22,5 @@ mod words;
 pub use dialling::dial;
 pub use fault::DialFault;
 pub use program::attend;
-pub use request::{Form, Manner, Request};
+pub use request::{Asked, Form, Manner, Request};
+pub use words::PROGRAM;

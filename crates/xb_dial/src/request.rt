@@ -37,3 +37,12 @@ pub struct Request {
     /// What is wrong at single places.
     pub faults: Vec<Fault>,
 }
+
+/// What the words ask for.
+#[derive(Debug, Drop)]
+pub struct Asked<'a> {
+    /// The file of the calls; without it, or with `-`, the input.
+    pub calls: Option<&'a str>,
+    /// How they are dialled.
+    pub request: Request,
+}
