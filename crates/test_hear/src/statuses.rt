@@ -231,7 +231,8 @@ fn tells_how_it_is_called(rt: HostRuntime) -> Result<(), Fail> {
     assert!(rt; err.is_empty());
     assert!(rt; out.starts_with(usage), "{}", out.escape_ascii());
     assert!(rt;
-        out.windows(of_line.len()).any(|part| part == of_line.as_slice()),
+        out.windows(of_line.len())
+            .any(|part| part == of_line.as_slice()),
         "{}",
         out.escape_ascii()
     );
