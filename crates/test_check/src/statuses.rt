@@ -1,8 +1,10 @@
 // Words and decks in; a status, what is wrong and the line of a fault out, as a person reckoned them.
 use std::alloc::Global;
 use std::test::Fail;
-use test_kit::{Gives, Halting, Program, Short, check_reads, check_status, check_writes};
-use xb_check::{CheckFault, attend};
+use test_kit::{
+    Folder, Gives, Halting, Program, Short, called, check_reads, check_status, check_writes,
+};
+use xb_check::{CheckFault, PROGRAM, attend};
 
 // The program `mfcheck`.
 #[derive(Clone, Copy)]
@@ -21,9 +23,17 @@ impl Program for Mfcheck {
         out: &mut Short,
         err: &mut Vec<u8>,
     ) -> u8 {
-        attend(alloc, words, reader, out, err)
+        attend(alloc, &called(&PROGRAM, words), &FOLDER, reader, out, err)
     }
 }
+
+// The files that there are.
+const FOLDER: Folder = Folder(&[
+    ("a.deck", PASSED_OVER),
+    ("two\nlines", MISNAMED),
+    ("call.wav", b"RIFF\x24\0\0\0WAVEfmt "),
+    ("wide.deck", b"\xff\xfeb\0"),
+]);
 
 // A deck that is whole, but for two keys and a heading that are passed over.
 const PASSED_OVER: &[u8] =
@@ -260,7 +270,8 @@ deck:5:1: this line is nearly ---; three hyphens have to stand alone, and LF or 
 deck:8:1: this line is nearly ---; three hyphens have to stand alone, and LF or CR LF after them: \"---\"?,
 ";
 
-const USAGE: &[u8] = b"mfcheck: usage: mfcheck [--name NAME] [--all]\n";
+// A table alone with a heading that no rule names.
+const MISNAMED: &[u8] = b"[[routes]]\ncode = \"0\"\n";
 
 // The words after the program's name, the deck, the status, and what stands on standard output and error.
 const CASES: &[(&[&str], &[u8], u8, &[u8], &[u8])] = &[
@@ -318,7 +329,7 @@ const CASES: &[(&[&str], &[u8], u8, &[u8], &[u8])] = &[
     ),
     (
         &[],
-        b"[[routes]]\ncode = \"0\"\n",
+        MISNAMED,
         0,
         b"deck:1:1: no rule names this heading; there are [limits] and [[route]]: [[routes]]\n",
         b"",
@@ -420,9 +431,78 @@ deck:4:1: this route lacks code or trunk, or one of its keys has another kind of
         b"mfcheck: loop rows: record 2 has a wrong line\n",
     ),
     (&["--all", "--name", "t"], HEADINGS, 0, ALL_HEADINGS, b""),
-    (&["--all=yes"], PASSED_OVER, 2, b"", USAGE),
-    (&["deck"], PASSED_OVER, 2, b"", USAGE),
-    (&["--name"], PASSED_OVER, 2, b"", USAGE),
+    (&["a.deck"], FAULTY, 0, TOLD, b""),
+    (
+        &["-"],
+        MISNAMED,
+        0,
+        b"deck:1:1: no rule names this heading; there are [limits] and [[route]]: [[routes]]\n",
+        b"",
+    ),
+    (
+        &["two\nlines"],
+        FAULTY,
+        0,
+        b"two?lines:1:1: no rule names this heading; there are [limits] and [[route]]: [[routes]]\n",
+        b"",
+    ),
+    (
+        &["two\nlines", "--name", "\x1b[7m\u{85}\u{e9}"],
+        FAULTY,
+        0,
+        b"?[7m?\xc3\xa9:1:1: no rule names this heading; there are [limits] and [[route]]: [[routes]]\n",
+        b"",
+    ),
+    (
+        &["none.deck"],
+        FAULTY,
+        1,
+        b"",
+        b"mfcheck: none.deck: entity not found\n",
+    ),
+    (
+        &["call.wav"],
+        FAULTY,
+        1,
+        b"",
+        b"mfcheck: call.wav: it is a sound, which mfrx and mfloop take\n",
+    ),
+    (
+        &["wide.deck"],
+        FAULTY,
+        1,
+        b"",
+        b"mfcheck: wide.deck: it is UTF-16, and UTF-8 is taken: iconv -f UTF-16 -t UTF-8 makes that of it\n",
+    ),
+    (
+        &["--all=yes"],
+        PASSED_OVER,
+        2,
+        b"",
+        b"mfcheck: unexpected value 'yes' for '--all'; no more were expected; mfcheck --help says more\n",
+    ),
+    (
+        &["a.deck", "two\nlines"],
+        PASSED_OVER,
+        2,
+        b"",
+        b"mfcheck: there is one word too many, 'two?lines'; mfcheck --help says more\n",
+    ),
+    (
+        &["--name"],
+        PASSED_OVER,
+        2,
+        b"",
+        b"mfcheck: a value is required for '--name <NAME>' but none was supplied; mfcheck --help says more\n",
+    ),
+    (
+        &["--name="],
+        PASSED_OVER,
+        2,
+        b"",
+        b"mfcheck: invalid value '' for '--name': a name is wanted; mfcheck --help says more\n",
+    ),
+    (&["--version"], PASSED_OVER, 0, b"mfcheck 0.5\n", b""),
 ];
 
 #[test]

@@ -4,5 +4,6 @@ pub mod Judged
 pub mod Doubts
 pub mod Reports
 pub mod TallyTexts
+pub mod Named
 pub mod Options
 pub mod Program

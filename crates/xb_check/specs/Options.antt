@@ -1,25 +1,31 @@
 -- What the words of the command line ask for, as clap reads them.
-use Rattle.std.specs.Prelude.{◌≡◌, List, [], ◌∷◌, codes, unwrap_or}
-use Rattle.clap.specs.Simple.{App, matches_of}
+use Rattle.std.specs.Prelude.{◌≡◌, List, [], Option, Some, None, codes, if◌then◌else◌, option_map, unwrap_or}
+use Rattle.std.specs.Borrow.{Bor}
+use Rattle.std.specs.Str.{bytes_eq}
 use Rattle.clap.specs.Walk.{Row, Text, first_of}
-use Rattle.xb_command.specs.Commands.{command_of}
-use Rattle.xb_command.specs.Given.{IsTaken, ReadsFlag, given_by}
-use Rattle.xb_command.specs.declared.command.Takes.TheVariants as takes
+use Rattle.xb_command.specs.Answers.{Takes}
+use Rattle.xb_command.specs.Given.{ReadsFlag, given_by}
+use Rattle.xb_command.specs.declared.asking.Misfit.{Misfit}
+use Rattle.xb_command.specs.declared.table.Call.{Call}
 use Rattle.xb_check.specs.declared.words.Request.{Request}
 
--- `mfcheck [--name NAME] [--all]`
-abbrev pub command_of_words : App
-command_of_words = command_of (codes "mfcheck") ((codes "name", takes.Text) ∷ (codes "all", takes.Nothing) ∷ [])
+-- the name of a deck's file, and `deck` for the input
+abbrev pub own_name : Option (Bor Text) → Text
+own_name None = codes "deck"
+own_name (Some name) = if bytes_eq name.now (codes "-") then codes "deck" else name.now
 
--- the name of the deck's file: `deck` where it is not given
-abbrev pub name_of : List Row → Text
-name_of rows = unwrap_or (first_of (codes "name") rows) (codes "deck")
-
--- what clap matched says this name, and whether all is told
+-- what clap matched says this deck, the name that is told of it, and whether all is told
 pub record Says (rows : List Row) (request : Request) : Type 0 where
-  pub name : request.name.now ≡ name_of rows
+  pub deck : option_map (λ text. text.now) request.deck ≡ first_of (codes "DECK") rows
+  pub name : request.name.now ≡ unwrap_or (first_of (codes "name") rows) (own_name request.deck)
   pub all : ReadsFlag (given_by rows (codes "all")) request.all
 
--- clap takes the words, and they ask for this
-abbrev pub Asks : List Text → Request → Type 0
-Asks words request = IsTaken command_of_words words × Says (matches_of command_of_words words) request
+-- it says a name to be told that is empty, and this names that option and value
+pub record IsNoName (rows : List Row) (misfit : Misfit) : Type 0 where
+  pub name : first_of (codes "name") rows ≡ Some []
+  pub option : misfit.option.now ≡ codes "name"
+  pub value : misfit.value.now ≡ []
+
+-- the words of a call are taken, and say such a name
+abbrev pub SayNoName : Call → Misfit → Type 0
+SayNoName call misfit = (rows : List Row) × Takes call rows × IsNoName rows misfit

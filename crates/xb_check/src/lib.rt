@@ -16,7 +16,8 @@
 //!   and `Refused` has its first fault. In both cases the writer got exactly the lines of what was told
 //!   (`report_text`): all that was found, or the first ten of each kind and how many more there are (`told`
 //!   and `untold` of `xb_findings`).
-//! - `attend`: the status 0, 1 or 2, with what was written (`Attends` of `xb_command`).
+//! - `attend`: the deck is the input, or a file that is opened by its name; the status 0, 1 or 2, with what was
+//!   written (`AttendsBy` of `xb_command`). The name that is told of the deck is in one line.
 #![tactic(auto)]
 
 mod alone;
@@ -25,6 +26,7 @@ mod doubts;
 mod fault;
 mod judging;
 pub mod laws;
+mod name;
 mod program;
 mod reporting;
 mod words;
@@ -34,5 +36,6 @@ pub use fault::CheckFault;
 pub use judging::verdict;
 pub use program::attend;
 pub use reporting::MOST_SHOWN_BYTES;
+pub use words::PROGRAM;
 pub use xb_findings::{Finding, TOLD_OF_A_KIND, What, findings};
 pub use xb_keys::{Key, Section};
