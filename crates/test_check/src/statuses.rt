@@ -274,7 +274,15 @@ deck:8:1: this line is nearly ---; three hyphens have to stand alone, and LF or 
 const MISNAMED: &[u8] = b"[[routes]]\ncode = \"0\"\n";
 
 // The words after the program's name, the deck, the status, and what stands on standard output and error.
-const CASES: &[(&[&str], &[u8], u8, &[u8], &[u8])] = &[
+type Case = (
+    &'static [&'static str],
+    &'static [u8],
+    u8,
+    &'static [u8],
+    &'static [u8],
+);
+
+const CASES: &[Case] = &[
     (&["--name", "a.deck"], PASSED_OVER, 0, TOLD, b""),
     (&[], MARKED, 0, MARKED_TOLD, b""),
     (
@@ -431,6 +439,10 @@ deck:4:1: this route lacks code or trunk, or one of its keys has another kind of
         b"mfcheck: loop rows: record 2 has a wrong line\n",
     ),
     (&["--all", "--name", "t"], HEADINGS, 0, ALL_HEADINGS, b""),
+];
+
+// The same of words that name a file, or are wrong.
+const CALLS: &[Case] = &[
     (&["a.deck"], FAULTY, 0, TOLD, b""),
     (
         &["-"],
@@ -505,17 +517,27 @@ deck:4:1: this route lacks code or trunk, or one of its keys has another kind of
     (&["--version"], PASSED_OVER, 0, b"mfcheck 0.5\n", b""),
 ];
 
-#[test]
-fn tells_what_is_wrong(rt: HostRuntime) -> Result<(), Fail> {
-    for (words, deck, status, written, line) in CASES {
+// Checks what the program gives in each case.
+fn check_cases(alloc: Global, cases: &[Case]) -> Result<(), Fail> {
+    for (words, deck, status, written, line) in cases {
         let wanted = Gives {
             status: *status,
             written,
             line,
         };
-        check_status(rt.alloc(), &Mfcheck, words, deck, wanted)?;
+        check_status(alloc, &Mfcheck, words, deck, wanted)?;
     }
     Ok(())
+}
+
+#[test]
+fn tells_what_is_wrong(rt: HostRuntime) -> Result<(), Fail> {
+    check_cases(rt.alloc(), CASES)
+}
+
+#[test]
+fn opens_the_file_and_refuses_wrong_words(rt: HostRuntime) -> Result<(), Fail> {
+    check_cases(rt.alloc(), CALLS)
 }
 
 #[test]
