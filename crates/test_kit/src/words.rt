@@ -1,4 +1,6 @@
 // The words of a command line.
+ghost use Rattle.std.specs.Prelude.{◌≡◌};
+
 use std::alloc::{AllocError, Global};
 use xb_command::{Call, Program};
 
@@ -13,7 +15,9 @@ pub fn words_of(alloc: Global, program: &str, words: &[&str]) -> Result<Vec<Stri
 }
 
 /// A call of a program by these words, the program's name first, whose streams are no terminals.
-pub fn called<'a>(program: &'a Program<'a>, words: &'a [String]) -> Call<'a> {
+pub fn called<'a>(program: &'a Program<'a>, words: &'a [String]) -> Call<'a>
+    ensures { result.program ≡ program.entry }
+{
     Call {
         program,
         words,
