@@ -56,6 +56,15 @@ const PICTURES: &[(&[&str], &[&str])] = &[
     ),
 ];
 
+// The place of a part in a text, if it is there.
+fn place_of(text: &[u8], part: &str) -> Option<usize> {
+    if part.is_empty() {
+        return None;
+    }
+    text.windows(part.len())
+        .position(|bytes| bytes == part.as_bytes())
+}
+
 #[test]
 fn pictures_say_what_was_heard(rt: HostRuntime) -> Result<(), Fail> {
     for (words, parts) in PICTURES {
@@ -76,10 +85,7 @@ fn pictures_say_what_was_heard(rt: HostRuntime) -> Result<(), Fail> {
         assert!(rt; err.is_empty(), "{words:?}");
         let mut rest = out.as_slice();
         for part in *parts {
-            let Some(place) = rest
-                .windows(part.len())
-                .position(|bytes| bytes == part.as_bytes())
-            else {
+            let Some(place) = place_of(rest, part) else {
                 return Err(Fail::from("a text is missing"));
             };
             rest = &rest[place..];
