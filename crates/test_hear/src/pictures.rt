@@ -88,7 +88,7 @@ fn pictures_say_what_was_heard(rt: HostRuntime) -> Result<(), Fail> {
             let Some(place) = place_of(rest, part) else {
                 return Err(Fail::from("a text is missing"));
             };
-            rest = &rest[place..];
+            rest = rest.get(place..).unwrap_or(&[]);
         }
     }
     Ok(())
