@@ -2,8 +2,8 @@
 use std::alloc::{AllocError, Global};
 use std::io::ErrorKind;
 use std::test::Fail;
-use test_kit::{Folder, Halting, Short, called, words_of};
-use xb_command::{Pipe, READER_GONE};
+use test_kit::{Folder, Halting, Short, words_of};
+use xb_command::{Call, Pipe, READER_GONE};
 use xb_dial::{PROGRAM, attend};
 
 // The words after the program's name, the calls, the status, and what stands on standard output and on
@@ -365,7 +365,12 @@ fn gives_each_status(rt: HostRuntime) -> Result<(), Fail> {
         let mut reader = *calls;
         let mut out = Vec::new(rt.alloc());
         let mut err = Vec::new(rt.alloc());
-        let call = called(&PROGRAM, &words);
+        let call = Call {
+            program: &PROGRAM,
+            words: &words,
+            is_typed: false,
+            is_shown: false,
+        };
         let got = attend(rt.alloc(), &call, &FILES, &mut reader, &mut out, &mut err);
         assert_eq!(rt; got, *status, "{words:?}, {}", calls.escape_ascii());
         assert!(rt;
@@ -390,7 +395,12 @@ fn fails_where_the_calls_fail(rt: HostRuntime) -> Result<(), Fail> {
         let mut reader = Halting::failing(calls, 4, place, ErrorKind::Interrupted);
         let mut out = Vec::new(rt.alloc());
         let mut err = Vec::new(rt.alloc());
-        let call = called(&PROGRAM, &words);
+        let call = Call {
+            program: &PROGRAM,
+            words: &words,
+            is_typed: false,
+            is_shown: false,
+        };
         let got = attend(rt.alloc(), &call, &FILES, &mut reader, &mut out, &mut err);
         assert_eq!(rt; got, 1, "{place}");
         assert!(rt; out.is_empty(), "{place}");
@@ -408,7 +418,12 @@ fn writes_the_beginning_where_the_rows_fail(rt: HostRuntime) -> Result<(), Fail>
         let mut out = Short::new(rt.alloc(), room, Some(ErrorKind::Other));
         out.flush = Some(ErrorKind::Other);
         let mut err = Vec::new(rt.alloc());
-        let call = called(&PROGRAM, &words);
+        let call = Call {
+            program: &PROGRAM,
+            words: &words,
+            is_typed: false,
+            is_shown: false,
+        };
         let got = attend(rt.alloc(), &call, &FILES, &mut calls, &mut out, &mut err);
         assert_eq!(rt; got, 1, "{room}");
         assert!(rt; out.taken.as_slice() == &SEVEN_DIGITS[..room], "{room}");
@@ -427,7 +442,12 @@ fn told_where_rows_fail(alloc: Global, kind: ErrorKind) -> Result<(u8, Vec<u8>),
     let mut out = pipe.output(Short::new(alloc, 20, Some(kind)));
     let status = attend(
         alloc,
-        &called(&PROGRAM, &words),
+        &Call {
+            program: &PROGRAM,
+            words: &words,
+            is_typed: false,
+            is_shown: false,
+        },
         &FILES,
         &mut calls,
         &mut out,
