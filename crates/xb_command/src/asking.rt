@@ -55,27 +55,38 @@ pub enum Answer<'a> {
     NoMemory,
 }
 
-// What an error of clap says, with its message.
-fn answer_by<'a>(alloc: Global, program: &Program<'a>, kind: ErrorKind, message: &str) -> Answer<'a>
+// What an error of clap on words says, with its message.
+fn answer_by<'a>(
+    alloc: Global,
+    program: &Program<'a>,
+    words: &[String],
+    kind: ErrorKind,
+    message: &str,
+) -> Answer<'a>
     ensures { AnswersError kind result }
 {
     match kind {
         ErrorKind::OutOfMemory => Answer::NoMemory,
         ErrorKind::DisplayHelp => Answer::Help,
         ErrorKind::DisplayVersion => Answer::Version,
-        kind => match reason_of(alloc, program, message) {
+        kind => match reason_of(alloc, program, words, message) {
             Ok(reason) => Answer::Wrong(kind, reason),
             Err(_) => Answer::NoMemory,
         },
     }
 }
 
-// What an error of clap says.
-fn answer_of<'a>(alloc: Global, program: &Program<'a>, error: &Error) -> Answer<'a>
+// What an error of clap on words says.
+fn answer_of<'a>(
+    alloc: Global,
+    program: &Program<'a>,
+    words: &[String],
+    error: &Error,
+) -> Answer<'a>
     ensures { AnswersError (kind_of error.now) result }
 {
     match message_of(alloc, error) {
-        Ok(message) => answer_by(alloc, program, error.kind(), &message),
+        Ok(message) => answer_by(alloc, program, words, error.kind(), &message),
         Err(_) => Answer::NoMemory,
     }
 }
@@ -95,7 +106,12 @@ fn may_go_on(kind: ErrorKind, message: &str) -> bool {
 }
 
 // What an error of the beginning of the words says, unless they may go on after it.
-fn settled_answer<'a>(alloc: Global, program: &Program<'a>, error: &Error) -> Option<Answer<'a>>
+fn settled_answer<'a>(
+    alloc: Global,
+    program: &Program<'a>,
+    words: &[String],
+    error: &Error,
+) -> Option<Answer<'a>>
     ensures { IfSome result (AnswersError (kind_of error.now)) }
 {
     match message_of(alloc, error) {
@@ -103,7 +119,7 @@ fn settled_answer<'a>(alloc: Global, program: &Program<'a>, error: &Error) -> Op
             if may_go_on(error.kind(), &message) {
                 None
             } else {
-                Some(answer_by(alloc, program, error.kind(), &message))
+                Some(answer_by(alloc, program, words, error.kind(), &message))
             }
         }
         Err(_) => Some(Answer::NoMemory),
@@ -131,7 +147,7 @@ fn refusal_of<'a>(alloc: Global, program: &Program<'a>, words: &'a [String]) -> 
 {
     match matched(alloc, program, words) {
         Ok(_) => None,
-        Err(error) => settled_answer(alloc, program, &error),
+        Err(error) => settled_answer(alloc, program, words, &error),
     }
 }
 
@@ -166,7 +182,7 @@ fn first_refusal<'a>(
             return answer;
         }
     }
-    answer_of(alloc, program, error)
+    answer_of(alloc, program, words, error)
 }
 
 // Why clap refuses words.

@@ -135,13 +135,13 @@ fn arg_taking<'a>(arg: Arg<'a>, word: &Word<'a>) -> Arg<'a>
         Value::Itself => arg
             .required(true)
             .action(ArgAction::Set)
-            .value_name(word.shown),
-        Value::MayStand => arg.action(ArgAction::Set).value_name(word.shown),
+            .value_name(word.name),
+        Value::MayStand => arg.action(ArgAction::Set).value_name(word.name),
         Value::AllThatFollow => arg
             .required(true)
             .action(ArgAction::Append)
-            .value_name(word.shown),
-        Value::AnyThatFollow => arg.action(ArgAction::Append).value_name(word.shown),
+            .value_name(word.name),
+        Value::AnyThatFollow => arg.action(ArgAction::Append).value_name(word.name),
     }
 }
 

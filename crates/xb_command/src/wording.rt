@@ -76,20 +76,38 @@ fn is_of_negative(message: &str) -> bool {
     }
 }
 
-// What helps beside a message: how a value below 0 is written, or the name that may be meant.
-fn help_beside<'m>(message: &str, tips: &'m str) -> (&'static str, &'m str) {
-    if is_of_negative(message) {
-        return (
-            "; a value that begins with - needs =, as in --level=-10",
-            "",
-        );
+// How a value that begins with `-` is given to the option before it, if the words end with such two.
+fn given_with_equals(alloc: Global, words: &[String]) -> Result<String, AllocError> {
+    match words {
+        [.., option, value] if option.starts_with("--") => {
+            format!(in alloc; "; a value that begins with - needs =, as in {option}={value}")
+        }
+        _ => Ok(String::new(alloc)),
     }
-    match tips.trim_start().strip_prefix("tip: a similar ") {
-        Some(tip) => match tip.split_once('\n') {
-            Some((first, _)) => ("; a similar ", first),
-            None => ("; a similar ", tip),
-        },
-        None => ("", ""),
+}
+
+// The name that may be meant, if clap knows one.
+fn similar_name(tips: &str) -> Option<&str> {
+    let tip = tips.trim_start().strip_prefix("tip: a similar ")?;
+    match tip.split_once('\n') {
+        Some((first, _)) => Some(first),
+        None => Some(tip),
+    }
+}
+
+// What helps beside a message about the last of these words: how a value below 0 is given, or the name that may be meant.
+fn help_beside(
+    alloc: Global,
+    words: &[String],
+    message: &str,
+    tips: &str,
+) -> Result<String, AllocError> {
+    if is_of_negative(message) {
+        return given_with_equals(alloc, words);
+    }
+    match similar_name(tips) {
+        Some(name) => format!(in alloc; "; a similar {name}"),
+        None => Ok(String::new(alloc)),
     }
 }
 
@@ -97,6 +115,7 @@ fn help_beside<'m>(message: &str, tips: &'m str) -> (&'static str, &'m str) {
 pub(crate) fn reason_of(
     alloc: Global,
     program: &Program<'_>,
+    words: &[String],
     message: &str,
 ) -> Result<Vec<u8>, AllocError>
     ensures { IfOk result (λ line. IsOneLine line.items) }
@@ -105,7 +124,7 @@ pub(crate) fn reason_of(
     let (first, tips) = text.split_once("\n\n").unwrap_or((text.trim_end(), ""));
     let plain = in_plain_words(alloc, first)?;
     let range = range_in(alloc, program, first)?;
-    let (lead, tip) = help_beside(first, tips);
-    let whole = format!(in alloc; "{plain}{range}{lead}{tip}")?;
+    let help = help_beside(alloc, words, first, tips)?;
+    let whole = format!(in alloc; "{plain}{range}{help}")?;
     line_of(alloc, whole.as_bytes())
 }
