@@ -2,18 +2,28 @@
 //! out.
 #![tactic(auto)]
 
-use std::io;
+use std::io::{self, IsTerminal};
 use std::process::ExitCode;
-use xb_command::{SystemFiles, words_of_process};
-use xb_split::attend;
+use xb_command::{Call, Pipe, SystemFiles, words_of_process};
+use xb_split::{PROGRAM, attend};
 
-/// Splits the deck that the words name, or prints one line on standard error, as `attend` does.
+/// Does what the words ask for, as `attend` says, with the files and the streams of the process.
 fn main(rt: HostRuntime) -> ExitCode {
-    let errors = rt.stderr();
-    let mut err = io::writer(&errors);
-    let mut files = SystemFiles { rt: &rt };
+    let (pipe, errors) = (Pipe::default(), rt.stderr());
+    let mut out = pipe.output(io::writer(&rt));
+    let mut err = pipe.errors(io::writer(&errors));
     match words_of_process(&rt) {
-        Ok(words) => ExitCode::from(attend(rt.alloc(), &words, &mut files, &mut err)),
+        Ok(words) => {
+            let call = Call {
+                program: &PROGRAM,
+                words: &words,
+                is_typed: rt.stdin().is_terminal(),
+                is_shown: rt.stdout().is_terminal(),
+            };
+            let mut files = SystemFiles { rt: &rt };
+            let status = attend(rt.alloc(), &call, &mut files, &mut out, &mut err);
+            ExitCode::from(pipe.status(status))
+        }
         Err(fault) => {
             let _ = eprintln!(rt; "mfsplit: {fault}");
             ExitCode::FAILURE

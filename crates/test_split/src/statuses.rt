@@ -4,9 +4,9 @@ use std::alloc::Global;
 use std::io::{self, ErrorKind};
 use std::sync::atomic::{AtomicU64, Ordering};
 use std::test::Fail;
-use test_kit::words_of;
+use test_kit::{called, words_of};
 use xb_parts::LineRange;
-use xb_split::{MakeFault, Request, SplitFiles, attend};
+use xb_split::{MakeFault, PROGRAM, Request, SplitFiles, attend};
 
 const DECK: &[u8] =
     b"[[route]]\ncode = \"0\"\ntrunk = 1\n---\nline,state,ms\n7,M,500\n9999,M,500\n7,B,60\n\
@@ -25,8 +25,6 @@ const WRONG: &[u8] = b"---\nline,state,ms\n7,M,500\n7,X,500\n";
 const THREE: &[u8] = b"---\nline,state,ms\n1,M,500\n2,M,500\n3,M,500\n";
 
 const LIST: &str = "0000-9999.deck 0 9999 4\n";
-
-const USAGE: &[u8] = b"mfsplit: usage: mfsplit BIG FOLDER [--parts N]\n";
 
 // A deck as it is when it is counted, and as others that it may be when it is read again: with a row more, with a
 // row less, with a row on another line, and with a row that is none.
@@ -139,8 +137,10 @@ fn ends_so(
     line: &[u8],
 ) -> Result<bool, Fail> {
     let words = words_of(alloc, "mfsplit", words)?;
-    let mut err = Vec::new(alloc);
-    Ok(attend(alloc, &words, folder, &mut err) == status && err.as_slice() == line)
+    let call = called(&PROGRAM, &words);
+    let (mut out, mut err) = (Vec::new(alloc), Vec::new(alloc));
+    let ended = attend(alloc, &call, folder, &mut out, &mut err);
+    Ok(ended == status && out.is_empty() && err.as_slice() == line)
 }
 
 #[test]
@@ -161,7 +161,12 @@ const FAULTS: &[(&[&str], u8, &[u8])] = &[
     (
         &["none", "parts"],
         1,
-        b"mfsplit: the deck could not be opened: entity not found\n",
+        b"mfsplit: the deck could not be opened: none: entity not found\n",
+    ),
+    (
+        &["no\nsuch\x1bdeck", "parts"],
+        1,
+        b"mfsplit: the deck could not be opened: no?such?deck: entity not found\n",
     ),
     (
         &["no cut", "parts"],
@@ -189,10 +194,31 @@ const FAULTS: &[(&[&str], u8, &[u8])] = &[
         1,
         b"mfsplit: a part could not be written: entity not found\n",
     ),
-    (&["deck"], 2, USAGE),
-    (&["deck", "parts", "more"], 2, USAGE),
-    (&["deck", "parts", "--parts", "few"], 2, USAGE),
-    (&["--help"], 2, USAGE),
+    (
+        &[],
+        2,
+        b"mfsplit: the following required arguments were not provided: <DECK> <FOLDER>; mfsplit --help says more\n",
+    ),
+    (
+        &["deck", "--parts", "2"],
+        2,
+        b"mfsplit: the following required arguments were not provided: <FOLDER>; mfsplit --help says more\n",
+    ),
+    (
+        &["deck", "parts", "more"],
+        2,
+        b"mfsplit: there is one word too many, 'more'; mfsplit --help says more\n",
+    ),
+    (
+        &["deck", "parts", "--parts", "few"],
+        2,
+        b"mfsplit: invalid value 'few' for '--parts <N>': a whole number is wanted, from 0; mfsplit --help says more\n",
+    ),
+    (
+        &["deck", "parts", "--part", "2"],
+        2,
+        b"mfsplit: there is no option '--part'; a similar argument exists: '--parts'; mfsplit --help says more\n",
+    ),
 ];
 
 #[test]
@@ -208,6 +234,19 @@ fn faults_leave_no_list(rt: HostRuntime) -> Result<(), Fail> {
     folder.has_any = true;
     let not_empty = b"mfsplit: the folder is not empty\n";
     assert!(rt; ends_so(&mut folder, alloc, &["deck", "parts"], 1, not_empty)?);
+    Ok(())
+}
+
+#[test]
+fn the_version_is_written(rt: HostRuntime) -> Result<(), Fail> {
+    let alloc = rt.alloc();
+    let mut folder = Folder::new(alloc);
+    let words = words_of(alloc, "mfsplit", &["deck", "parts", "--version"])?;
+    let call = called(&PROGRAM, &words);
+    let (mut out, mut err) = (Vec::new(alloc), Vec::new(alloc));
+    assert_eq!(rt; attend(alloc, &call, &mut folder, &mut out, &mut err), 0);
+    assert_eq!(rt; out.as_slice(), b"mfsplit 0.5\n".as_slice());
+    assert!(rt; err.is_empty() && folder.decks.is_none());
     Ok(())
 }
 

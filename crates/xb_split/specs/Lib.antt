@@ -4,7 +4,6 @@ pub mod Counts
 pub mod RowStreams
 pub mod PartDecks
 pub mod Plans
-pub mod Rules
 pub mod Options
 pub mod Splits
 pub mod WriteFaults

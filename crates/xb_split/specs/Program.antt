@@ -1,50 +1,60 @@
--- What the program did, by its status.
-use Rattle.std.specs.Prelude.{ℕ, Bool, List, codes, None, Option, Err, Ok}
+-- What the program does.
+use Rattle.std.specs.Prelude.{ℕ, Bool, List, None, Option, Err, Ok}
 use Rattle.std.specs.Io.KnownBytes.{Keeps}
-use Rattle.clap.specs.Walk.{Text}
-use Rattle.xb_command.specs.Programs.{Attends, Streams, streams}
+use Rattle.xb_command.specs.Files.{Bytes}
+use Rattle.xb_command.specs.Programs.{Streams}
 use Rattle.xb_command.specs.Telling.{Tells}
-use Rattle.xb_split.specs.Options.{AreRefused, Asks}
+use Rattle.xb_command.specs.Works.{AsksBy, AsksNothing, Rules}
+use Rattle.xb_command.specs.declared.asking.Misfit.{Misfit}
+use Rattle.xb_command.specs.declared.table.Call.{Call}
+use Rattle.xb_command.specs.declared.table.Program.{Program}
+use Rattle.xb_command.specs.declared.work.Source.TheVariants as source
+use Rattle.xb_split.specs.Options.{Say, request_of}
 use Rattle.xb_split.specs.PartDecks.{Decks}
 use Rattle.xb_split.specs.SplitFaults.{Delivers}
 use Rattle.xb_split.specs.declared.fault.SplitFault.{SplitFault}
 use Rattle.xb_split.specs.declared.words.Request.{Request}
 
--- the program's name
-abbrev pub program : List ℕ
-program = codes "mfsplit"
+-- what is known of the folders of parts: whether one has anything in it, and what a deck has that was just made; then
+-- the decks that have their names, and the list of each folder before and after
+pub record Folders : Type 0 where
+  pub has_any : List ℕ → Option Bool
+  pub fresh : Option (List ℕ)
+  pub named : List ℕ → Decks
+  pub before : List ℕ → Option (List ℕ)
+  pub after : List ℕ → Option (List ℕ)
 
--- the line for words that are refused
-abbrev pub usage_line : List ℕ
-usage_line = codes "mfsplit: usage: mfsplit BIG FOLDER [--parts N]\n"
+-- the words of a call ask for this split
+abbrev pub Asks : Call → Request → Type 0
+Asks = AsksBy Say request_of
 
--- the lists of parts in folders
-abbrev pub Lists : Type 0
-Lists = List ℕ → Option (List ℕ)
+-- they are taken, and do not name a deck and a folder
+abbrev pub AskNothing : Call → Misfit → Type 0
+AskNothing call misfit = AsksNothing Say request_of call
 
--- the words name a deck and a folder, where the decks of all its parts and their list have their names
-pub record SplitsDeck (bytes : List ℕ → Option (List ℕ)) (has_any : List ℕ → Option Bool) (fresh : Option (List ℕ)) (named : List ℕ → Decks)
-    (before after : Lists) (words : List Text) (old new : Streams) : Type 0 where
-  pub request : Request
-  pub asks : Asks words request
-  pub split : Delivers (bytes request.big.now) (has_any request.folder.now) fresh request.parts (Ok tt)
-      (named request.folder.now) (before request.folder.now) (after request.folder.now)
+-- the decks of all parts and their list have their names
+pub record SplitsDeck (folders : Folders) (request : Request) (bytes : Bytes) (old new : Streams) : Type 0 where
+  pub split : Delivers (bytes request.big.now) (folders.has_any request.folder.now) folders.fresh request.parts (Ok tt)
+      (folders.named request.folder.now) (folders.before request.folder.now) (folders.after request.folder.now)
+  pub output : Keeps old.output new.output
   pub quiet : Keeps old.errors new.errors
 
--- they name a deck that gave a fault, of which a line was told
-pub record HasFault (bytes : List ℕ → Option (List ℕ)) (has_any : List ℕ → Option Bool) (fresh : Option (List ℕ)) (named : List ℕ → Decks)
-    (before after : Lists) (words : List Text) (old new : Streams) : Type 0 where
-  pub request : Request
+-- there was a fault, and a line says so
+pub record HasFault (folders : Folders) (request : Request) (program : Program) (bytes : Bytes) (old new : Streams)
+    : Type 0 where
   pub fault : SplitFault
-  pub asks : Asks words request
-  pub split : Delivers (bytes request.big.now) (has_any request.folder.now) fresh request.parts (Err fault)
-      (named request.folder.now) (before request.folder.now) (after request.folder.now)
-  pub line : Tells program None old.errors new.errors
+  pub split : Delivers (bytes request.big.now) (folders.has_any request.folder.now) folders.fresh request.parts
+      (Err fault) (folders.named request.folder.now) (folders.before request.folder.now)
+      (folders.after request.folder.now)
+  pub output : Keeps old.output new.output
+  pub line : Tells program.name.now None old.errors new.errors
 
--- what the program did with its words, the files and its streams; the output is the list of any folder
-abbrev pub AttendsSplit : (List ℕ → Option (List ℕ)) → (List ℕ → Option Bool) → Option (List ℕ) → (List ℕ → Decks)
-    → Lists → Lists → List Text → Option (List ℕ) → Option (List ℕ) → ℕ → Type 0
-AttendsSplit bytes has_any fresh named before after words errors errors' status = (folder : List ℕ) →
-    let old = streams None (before folder) errors in let new = streams None (after folder) errors' in
-    Attends program usage_line (SplitsDeck bytes has_any fresh named before after words old new)
-    (HasFault bytes has_any fresh named before after words old new) (AreRefused words) old new status
+-- what the words ask for, and what is done; the input is not read
+abbrev pub by_split : Folders → Rules Request
+by_split folders = record {
+  Asks = Asks;
+  Misfits = AskNothing;
+  source = λ request. source.Input;
+  Done = λ request program bytes old new. SplitsDeck folders request bytes old new;
+  Fails = HasFault folders;
+}

@@ -120,6 +120,7 @@ impl<'a, R: rt::Files + AllocGlobal + Clone + Drop> SplitFiles for SystemFiles<'
     type Parts = DeckFiles<R::File>;
 
     fn open(&self, alloc: Global, big: &str) -> io::Result<BufReader<R::File>> {
+        let big = if big == "-" { "/dev/stdin" } else { big };
         // a pipe cannot be read twice, and would be waited for
         if !fs::metadata(self.rt, big)?.is_file() {
             return Err(io::Error::other("it is no file"));

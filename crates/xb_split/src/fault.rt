@@ -7,6 +7,7 @@ use crate::planning::PlanPartsFault;
 use crate::writing::WriteRowsFault;
 use std::io;
 use thiserror::Error;
+use xb_command::InOneLine;
 use xb_deck::TableFault;
 use xb_model::RowFault;
 use xb_routes::RouteFault;
@@ -65,6 +66,11 @@ pub enum SplitFault {
     #[error("{}", RowFault::NoMemory)]
     NoMemory,
 }
+
+/// That the deck of this name could not be opened, and why.
+#[derive(Debug, Drop, Error)]
+#[error("the deck could not be opened: {}: {}", InOneLine(.0), .1)]
+pub(crate) struct Unopened<'a>(pub(crate) &'a str, pub(crate) io::Error);
 
 // Why a table is refused.
 pub(crate) fn fault_of_routes(fault: RouteFault) -> SplitFault

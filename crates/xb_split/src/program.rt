@@ -1,48 +1,77 @@
 // The program: its words and files in, a status and the decks of parts out.
-ghost use Rattle.xb_command.specs.Commands.{texts_of};
-ghost use Rattle.xb_split.specs.Program.{AttendsSplit};
+ghost use Rattle.std.specs.Prelude.{◌≡◌, true, IfErr, IfOk, List, None, ℕ};
+ghost use Rattle.clap.specs.Faults.{is_simple_and_free};
+ghost use Rattle.xb_command.specs.Programs.{streams};
+ghost use Rattle.xb_command.specs.Tables.{command_by};
+ghost use Rattle.xb_command.specs.Telling.{Tells};
+ghost use Rattle.xb_command.specs.Works.{AttendsBy, IsWrong};
+ghost use Rattle.xb_split.specs.Program.{AskNothing, Asks, by_split};
 ghost use Rattle.xb_split.specs.Splits.{LeavesNone};
 
+use crate::fault::{SplitFault, Unopened};
 use crate::files::SplitFiles;
 use crate::splitting::split;
-use crate::words::request_of_words;
+use crate::words::{Request, options_of, request_of};
 use std::alloc::Global;
 use std::io::Write;
-use xb_command::{DONE, tell_fault, tell_words};
+use xb_command::{Answer, Call, DONE, FAULT, NOTHING, ask_words, tell_answer, tell_fault};
 
-// The program's name.
-pub(crate) const PROGRAM: &str = "mfsplit";
+// What the words of a call ask for, or why they choose nothing.
+fn ask<'a>(alloc: Global, call: &Call<'a>) -> Result<Request<'a>, Answer<'a>>
+    requires { is_simple_and_free (command_by call.now.program.now) ≡ true }
+    ensures asks { IfOk result (Asks call.now) }
+    ensures wrong { IfErr result (IsWrong AskNothing call.now) }
+{
+    let words = match ask_words(alloc, call) {
+        Ok(words) => words,
+        Err(answer) => return Err(answer),
+    };
+    match request_of(options_of(&words)) {
+        Some(request) => Ok(request),
+        None => Err(Answer::Unfit(NOTHING)),
+    }
+}
 
-// The line of refused words.
-const USAGE: &[u8] = b"mfsplit: usage: mfsplit BIG FOLDER [--parts N]\n";
+// Tells a fault in a line, with the name of a deck that could not be opened.
+fn tell<E: Write>(alloc: Global, err: &mut E, program: &str, big: &str, fault: SplitFault) -> u8
+    ensures status { result ≡ FAULT }
+    ensures line { Tells program.now None (E.contents err.old) (E.contents err.new) }
+{
+    match fault {
+        SplitFault::Deck(error) => tell_fault(alloc, err, program, Unopened(big, error)),
+        fault => tell_fault(alloc, err, program, fault),
+    }
+}
 
-/// Reads the words of the command line, the program's name first, and by them splits a deck, as `split` does.
-/// It returns the status of the process:
+/// Reads the words of the command line, and by them splits a deck, as `split` does. It returns the status of the
+/// process, as `attend` of `xb_command` says; only help and the version are written to `out`.
 ///
-/// - `DONE`: the words name a deck and a folder, which got the decks of all parts, and after them their list;
-///   `err` got nothing;
-/// - `FAULT`: `split` has a fault, or memory ran out while the words were read; `err` gets the fault as one
-///   line, there is no list, unless all decks are whole, and no decks are left that have no names;
-/// - `WORDS_REFUSED`: the words are refused, or ask for help; `err` gets the usage as one line, no file is
-///   read and none is made.
-///
-/// A fault in writing to `err` changes no status.
-pub fn attend<F: SplitFiles, E: Write>(
+/// Unless a deck is split, or a name is at fault, the list of each folder stays as it was, and no decks are left that
+/// have no names. In the contract such a list stands where the input would, which is not read.
+pub fn attend<F: SplitFiles, W: Write, E: Write>(
     alloc: Global,
-    words: &[String],
+    call: &Call<'_>,
     files: &mut F,
+    out: &mut W,
     err: &mut E,
 ) -> u8
-    ensures attends { AttendsSplit (F.bytes files.old) (F.filled files.old) (F.fresh files.old)
-        (F.named files.new) (F.listed files.old) (F.listed files.new) (texts_of words.now)
-        (E.contents err.old) (E.contents err.new) result }
+    requires { is_simple_and_free (command_by call.now.program.now) ≡ true }
+    ensures attends { (folder : List ℕ) → AttendsBy (by_split (record {
+      has_any = F.filled files.old;
+      fresh = F.fresh files.old;
+      named = F.named files.new;
+      before = F.listed files.old;
+      after = F.listed files.new;
+    })) call.now (F.bytes files.old)
+        (streams (F.listed files.old folder) (W.contents out.old) (E.contents err.old))
+        (streams (F.listed files.new folder) (W.contents out.new) (E.contents err.new)) result }
     ensures none_left { LeavesNone (F.unfinished files.old) (F.unfinished files.new) }
 {
-    match request_of_words(alloc, words) {
+    match ask(alloc, call) {
         Ok(request) => match split(alloc, files, &request) {
             Ok(()) => DONE,
-            Err(fault) => tell_fault(alloc, err, PROGRAM, fault),
+            Err(fault) => tell(alloc, err, call.program.name, request.big, fault),
         },
-        Err(fault) => tell_words(err, PROGRAM, USAGE, fault),
+        Err(answer) => tell_answer(alloc, out, err, call.program, answer),
     }
 }

@@ -1,11 +1,51 @@
-// What the words of the command line ask for.
-ghost use Rattle.std.specs.Prelude.{◌≡◌, IfErr, IfOk};
-ghost use Rattle.xb_command.specs.Commands.{texts_of};
-ghost use Rattle.xb_split.specs.Options.{AreRefused, Asks, Say, request_of};
+// The words of the program, and what they ask for.
+ghost use Rattle.std.specs.Prelude.{◌≡◌};
+ghost use Rattle.xb_split.specs.Options.{Say, request_of};
 
-use crate::program::PROGRAM;
-use std::alloc::Global;
-use xb_command::{Takes, Words, WordsFault, read_words};
+use xb_command::{FLAG, Program, Value, Word, Words};
+
+/// The program and its words.
+pub const PROGRAM: Program<'static> = Program {
+    name: "mfsplit",
+    about: "Splits a deck of any length by lines into decks that mfbank takes, and writes them into FOLDER, as
+0000-4999.deck, with a list of them, parts.txt. FOLDER is made; one that has anything in it is refused. DECK is a
+file, which is read twice; it is never held in memory. Parts are as few as may be. A route table that mfbank
+refuses is refused before anything is made.
+
+    mfsplit day.deck day.parts
+    for deck in day.parts/*.deck; do mfbank \"$deck\" > \"${deck%.deck}.page\"; done
+    mfjoin --list day.parts/parts.txt day.parts/*.page > day.page
+
+parts.txt is there only when all decks are whole: a run that was stopped at any moment leaves none. On a terminal
+the script bin/mfsplit shows how far it is, first as it counts the records and then as it writes them.
+
+The status is 0 for parts, 1 for a fault, and 2 where the words are refused.",
+    words: &[
+        Word {
+            name: "DECK",
+            value: Value::Itself,
+            help: "the deck, a file; with -, the file that is standard input",
+            ..FLAG
+        },
+        Word {
+            name: "FOLDER",
+            value: Value::Itself,
+            help: "the folder of its parts, which is new or empty",
+            ..FLAG
+        },
+        Word {
+            name: "parts",
+            value: Value::Number(0, u32::MAX),
+            shown: "N",
+            help: "at most N parts (a deck has 1 to 500), as even as the lines allow; more only where N would not fit; a
+        whole number",
+            ..FLAG
+        },
+    ],
+    reads: None,
+    writes_sound: false,
+    usage: "",
+};
 
 /// What is split, and how.
 #[derive(Clone, Copy)]
@@ -18,7 +58,7 @@ pub struct Request<'a> {
     pub parts: Option<u32>,
 }
 
-// What the options of the command line say.
+// What the words say.
 #[derive(Clone, Copy)]
 pub(crate) struct Options<'a> {
     pub(crate) big: Option<&'a str>,
@@ -26,26 +66,19 @@ pub(crate) struct Options<'a> {
     pub(crate) parts: Option<u32>,
 }
 
-// The options of the program, and its words that stand alone, each under its name.
-const OPTIONS: [(&str, Takes); 3] = [
-    ("parts", Takes::Number),
-    ("big", Takes::Itself),
-    ("folder", Takes::Itself),
-];
-
 // What the words say.
-fn options_of<'a>(words: &Words<'a>) -> Options<'a>
+pub(crate) fn options_of<'a>(words: &Words<'a>) -> Options<'a>
     ensures { Say words.now result }
 {
     Options {
-        big: words.text("big"),
-        folder: words.text("folder"),
+        big: words.text("DECK"),
+        folder: words.text("FOLDER"),
         parts: words.number("parts"),
     }
 }
 
 // What the options ask for; `None` where they don't name a deck and a folder.
-fn request_of<'a>(options: Options<'a>) -> Option<Request<'a>>
+pub(crate) fn request_of<'a>(options: Options<'a>) -> Option<Request<'a>>
     ensures { result ≡ request_of options.entry }
 {
     let big = options.big?;
@@ -55,13 +88,4 @@ fn request_of<'a>(options: Options<'a>) -> Option<Request<'a>>
         folder,
         parts: options.parts,
     })
-}
-
-/// What the words ask for: a deck, a folder, and how many parts, if that is said.
-pub fn request_of_words<'a>(alloc: Global, words: &'a [String]) -> Result<Request<'a>, WordsFault>
-    ensures asks { IfOk result (λ request. Asks (texts_of words.entry.now) request) }
-    ensures refused { IfErr result (λ f. f ≡ WordsFault.Refused → AreRefused (texts_of words.entry.now)) }
-{
-    let words = read_words(alloc, PROGRAM, &OPTIONS, words)?;
-    request_of(options_of(&words)).ok_or(WordsFault::Refused)
 }
