@@ -31,6 +31,7 @@ def of_page(text):
 def words_of(said):
     """The numbers, the options and the choices in a line of help."""
     choices = [word for found in re.findall(CHOICE, said) for word in found.split(" or ")]
+    said = said.replace(", from 0", "")
     return re.findall(NUMBER, said) + re.findall(OPTION, said) + choices
 
 
@@ -41,7 +42,7 @@ def missing(told, paged):
             yield f"{name} is not in the page"
             continue
         on_page, text = paged[name]
-        if on_page.lower() != value.lower().replace(" ", ""):
+        if on_page.lower() != value.lower().removesuffix(",..").replace(" ", ""):
             yield f"{name} takes {value or 'nothing'}, and the page says {on_page or 'nothing'}"
         for word in words_of(said):
             if not re.search(rf"(?<![\w-]){re.escape(word)}(?![\w-])", text):
