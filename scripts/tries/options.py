@@ -10,7 +10,7 @@ each thing that is missing, and the status is 1 where there is one.
 import re
 import sys
 
-NUMBER = r"(?<![\w.])\d+(?:\.\d+)?(?![\w])"
+NUMBER = r"(?<![\w.,:-])\d+(?:\.\d+)?(?![\w:-]|[.,]\d)"
 OPTION = r"--[a-z][a-z-]*"
 CHOICE = r": ([\w.]+(?: or [\w.]+)+)"
 

@@ -1,9 +1,9 @@
 // Entries that lie in time, by places that were reckoned by hand.
+use crate::calling::sounded;
 use std::alloc::Global;
 use std::io::ErrorKind;
 use std::test::Fail;
 use test_kit::{Short, words_of};
-use xb_tone::attend;
 
 // Line 7 keys a 5 on trunk group 17 at 1,000 ms, and again at 1,150 ms; in between line 8 is refused.
 const ENTRIES: &[u8] =
@@ -46,7 +46,7 @@ fn sound_of(alloc: Global, words: &[&str]) -> Result<(Vec<u8>, Vec<u8>), Fail> {
     let mut reader = ENTRIES;
     let mut out = Vec::new(alloc);
     let mut err = Vec::new(alloc);
-    match attend(alloc, &line, &mut reader, &mut out, &mut err) {
+    match sounded(alloc, &line, &mut reader, &mut out, &mut err) {
         0 => Ok((out, err)),
         _ => Err(Fail::from("no sound")),
     }
@@ -78,7 +78,7 @@ fn sounds_nothing_that_is_untold(rt: HostRuntime) -> Result<(), Fail> {
     let mut reader = ENTRIES;
     let mut out = Vec::new(rt.alloc());
     let mut err = Short::new(rt.alloc(), 9, Some(ErrorKind::Other));
-    let status = attend(rt.alloc(), &words, &mut reader, &mut out, &mut err);
+    let status = sounded(rt.alloc(), &words, &mut reader, &mut out, &mut err);
     assert_eq!(rt; status, 1);
     assert!(rt; out.is_empty());
     Ok(())

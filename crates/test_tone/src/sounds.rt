@@ -1,7 +1,7 @@
 // Sounds, byte for byte as another program computed them from sines of its own.
+use crate::calling::sounded;
 use std::test::Fail;
 use test_kit::words_of;
-use xb_tone::attend;
 
 pub const PAGE: &[u8] = b"0007 1 REFUSED UNKNOWN 3\n\
 0007 2 KEYED 0017 KP:1100+1700 0:1300+1500 ST:1500+1700\n\
@@ -175,7 +175,7 @@ fn sounds_as_computed(rt: HostRuntime) -> Result<(), Fail> {
         let mut reader = *page;
         let mut out = Vec::new(rt.alloc());
         let mut err = Vec::new(rt.alloc());
-        let got = attend(rt.alloc(), &line, &mut reader, &mut out, &mut err);
+        let got = sounded(rt.alloc(), &line, &mut reader, &mut out, &mut err);
         assert_eq!(rt; got, 0, "{words:?}");
         assert!(rt; err.is_empty(), "{words:?}");
         assert_eq!(rt; out.len(), *length, "{words:?}");

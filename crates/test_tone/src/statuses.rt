@@ -1,9 +1,9 @@
 // Words, pages and streams in; a status and lines of faults out.
+use crate::calling::sounded;
 use crate::sounds::PAGE;
 use std::alloc::Global;
 use std::test::Fail;
 use test_kit::{Gives, Halting, Program, Short, check_reads, check_status, check_writes};
-use xb_tone::attend;
 
 // The program `mftone`.
 #[derive(Clone, Copy)]
@@ -22,13 +22,9 @@ impl Program for Mftone {
         out: &mut Short,
         err: &mut Vec<u8>,
     ) -> u8 {
-        attend(alloc, words, reader, out, err)
+        sounded(alloc, words, reader, out, err)
     }
 }
-
-const USAGE: &[u8] = b"mftone: usage: mftone [--line N] [--entry N] [--lead N] [--kp N] [--key N] \
-[--gap N] [--raw] [--at] [--keys WORDS] [--level DBM0] [--twist DB] [--detune PERCENT] [--skew MS] \
-[--hole MS@MS] [--phase] [--with HZ:DBM0] [--hum DBM0] [--noise-peak N] [--seed N] [--clip] [--ulaw]\n";
 
 // The words after the program's name, the page, the status, and what stands on standard error; nothing is
 // written.
@@ -105,6 +101,31 @@ const CASES: &[(&[&str], &[u8], u8, &[u8])] = &[
         b"x",
         1,
         b"mftone: cadence: the silence after a tone is too long\n",
+    ),
+    // a file in place of the input, which is left alone
+    (
+        &["day.page", "--line", "8"],
+        b"x",
+        1,
+        b"mftone: the page has no such entry\n",
+    ),
+    (
+        &["-", "--line", "8"],
+        PAGE,
+        1,
+        b"mftone: the page has no such entry\n",
+    ),
+    (
+        &["none.page"],
+        PAGE,
+        1,
+        b"mftone: none.page: entity not found\n",
+    ),
+    (
+        &["call.wav"],
+        PAGE,
+        1,
+        b"mftone: call.wav: it is a sound, which mfrx and mfloop take\n",
     ),
     // no page is read for words of keys
     (
@@ -296,36 +317,127 @@ const ENTRIES: &[(&[&str], &[u8], &[u8])] = &[
     ),
 ];
 
-// Words after the program's name that are refused: the usage is told, and the page is not read.
-const REFUSED: &[&[&str]] = &[
+// Words after the program's name that are refused, and why; the page is not read.
+const REFUSED: &[(&[&str], &[u8])] = &[
     // a level of each tone is from -40.0 to 0, and a page has none
-    &["--keys", "KP", "--level=0.1"],
-    &["--keys", "KP", "--level=-3", "--twist=3.1"],
-    &["--keys", "KP", "--level=-40.1"],
-    &["--keys", "KP", "--twist=+1"],
-    &["--keys", "KP", "--noise-peak=32768"],
-    &["--keys", "KP", "--detune=50.1"],
-    &["--keys", "KP", "--skew=0.5"],
-    &["--keys", "KP", "--hole=10"],
-    &["--keys", "KP", "--hole=10@10001"],
-    &["--keys", "KP", "--with=0:-20"],
-    &["--keys", "KP", "--with=300"],
-    &["--keys", "KP", "--hum=1"],
-    &["--clip"],
-    &["--ulaw"],
-    &["--line", "7", "--raw", "--ulaw"],
-    &["--keys", "KP", "--ulaw=1"],
-    &["--keys", "KP", "--line", "7"],
-    // words of keys have no times, and entries no level
-    &["--at", "--keys", "KP"],
-    &["--at", "--level=-7"],
-    &["--at", "--entry", "1"],
-    &["--at", "7"],
-    &["--entry", "1"],
-    &["--line", "x"],
-    &["--speed", "10"],
-    &["--help"],
-    &["page.txt"],
+    (
+        &["--keys", "KP", "--level=0.1"],
+        b"mftone: invalid value '0.1' for '--level': a level is from -40.0 to 0, in dBm0 and tenths of it, as --level=-20.5; mftone --help says more\n",
+    ),
+    (
+        &["--keys", "KP", "--level=-3", "--twist=3.1"],
+        b"mftone: invalid value '3.1' for '--twist': the high tone too has a level from -40.0 to 0, in dBm0; mftone --help says more\n",
+    ),
+    (
+        &["--keys", "KP", "--level=-40.1"],
+        b"mftone: invalid value '-40.1' for '--level': a level is from -40.0 to 0, in dBm0 and tenths of it, as --level=-20.5; mftone --help says more\n",
+    ),
+    (
+        &["--keys", "KP", "--level=-7.25"],
+        b"mftone: invalid value '-7.25' for '--level': a level is from -40.0 to 0, in dBm0 and tenths of it, as --level=-20.5; mftone --help says more\n",
+    ),
+    (
+        &["--keys", "KP", "--level", "-20.5"],
+        b"mftone: there is no option '-2'; a value that begins with - needs =, as in --level=-20.5; mftone --help says more\n",
+    ),
+    (
+        &["--keys", "KP", "--twist=+1"],
+        b"mftone: invalid value '+1' for '--twist': a twist is in dB, with tenths at most, as 3.5 or --twist=-3.5; mftone --help says more\n",
+    ),
+    (
+        &["--keys", "KP", "--noise-peak=32768"],
+        b"mftone: invalid value '32768' for '--noise-peak <N>': 32768 is not in 0..=32767; mftone --help says more\n",
+    ),
+    (
+        &["--keys", "KP", "--detune=50.1"],
+        b"mftone: invalid value '50.1' for '--detune': a detuning is from -50.0 to 50.0, in percent and tenths of it; mftone --help says more\n",
+    ),
+    (
+        &["--keys", "KP", "--skew=0.5"],
+        b"mftone: invalid value '0.5' for '--skew': a skew is a whole number of ms from -10000 to 10000; mftone --help says more\n",
+    ),
+    (
+        &["--keys", "KP", "--hole=10"],
+        b"mftone: invalid value '10' for '--hole': a hole is MS@MS, each a whole number from 0 to 10000, as 10@20; mftone --help says more\n",
+    ),
+    (
+        &["--keys", "KP", "--hole=10@10001"],
+        b"mftone: invalid value '10@10001' for '--hole': a hole is MS@MS, each a whole number from 0 to 10000, as 10@20; mftone --help says more\n",
+    ),
+    (
+        &["--keys", "KP", "--with=0:-20"],
+        b"mftone: invalid value '0:-20' for '--with': a tone is HZ:DBM0, a whole number from 1 to 3999 and a level from -40.0 to 0, as 2600:-13.5; mftone --help says more\n",
+    ),
+    (
+        &["--keys", "KP", "--with=300"],
+        b"mftone: invalid value '300' for '--with': a tone is HZ:DBM0, a whole number from 1 to 3999 and a level from -40.0 to 0, as 2600:-13.5; mftone --help says more\n",
+    ),
+    (
+        &["--keys", "KP", "--hum=1"],
+        b"mftone: invalid value '1' for '--hum': hum has a level from -40.0 to 0, in dBm0 and tenths of it, as --hum=-20; mftone --help says more\n",
+    ),
+    // of several the first is told
+    (
+        &["--keys", "KP", "--with", "4000:-13", "--detune=50.1"],
+        b"mftone: invalid value '4000:-13' for '--with': a tone is HZ:DBM0, a whole number from 1 to 3999 and a level from -40.0 to 0, as 2600:-13.5; mftone --help says more\n",
+    ),
+    (
+        &["--keys", "KP", "--detune=50.1", "--with", "4000:-13"],
+        b"mftone: invalid value '50.1' for '--detune': a detuning is from -50.0 to 50.0, in percent and tenths of it; mftone --help says more\n",
+    ),
+    (
+        &["--clip"],
+        b"mftone: --clip wants --keys; mftone --help says more\n",
+    ),
+    (
+        &["--ulaw"],
+        b"mftone: --ulaw wants --keys; mftone --help says more\n",
+    ),
+    (
+        &["--line", "7", "--raw", "--ulaw"],
+        b"mftone: --ulaw wants --keys; mftone --help says more\n",
+    ),
+    (
+        &["--keys", "KP", "--ulaw=1"],
+        b"mftone: unexpected value '1' for '--ulaw'; no more were expected; mftone --help says more\n",
+    ),
+    (
+        &["--keys", "KP", "--line", "7"],
+        b"mftone: --keys and --line do not go together; mftone --help says more\n",
+    ),
+    // words of keys have no times and no page, and entries no level
+    (
+        &["--at", "--keys", "KP"],
+        b"mftone: --at and --keys do not go together; mftone --help says more\n",
+    ),
+    (
+        &["--at", "--level=-7"],
+        b"mftone: --level wants --keys; mftone --help says more\n",
+    ),
+    (
+        &["--at", "--entry", "1"],
+        b"mftone: --entry wants --line; mftone --help says more\n",
+    ),
+    (
+        &["day.page", "--keys", "KP"],
+        b"mftone: invalid value 'day.page' for 'PAGE': no page is read where --keys is given; mftone --help says more\n",
+    ),
+    (
+        &["--entry", "1"],
+        b"mftone: --entry wants --line; mftone --help says more\n",
+    ),
+    (
+        &["--line", "x"],
+        b"mftone: invalid value 'x' for '--line <N>': a whole number is wanted, from 0; mftone --help says more\n",
+    ),
+    (
+        &["--speed", "10"],
+        b"mftone: there is no option '--speed'; mftone --help says more\n",
+    ),
+    (
+        &["day.page", "7"],
+        b"mftone: there is one word too many, '7'; mftone --help says more\n",
+    ),
 ];
 
 #[test]
@@ -343,11 +455,11 @@ fn gives_each_fault(rt: HostRuntime) -> Result<(), Fail> {
 
 #[test]
 fn refuses_words(rt: HostRuntime) -> Result<(), Fail> {
-    for words in REFUSED {
+    for (words, line) in REFUSED {
         let wanted = Gives {
             status: 2,
             written: b"",
-            line: USAGE,
+            line,
         };
         check_status(rt.alloc(), &Mftone, words, PAGE, wanted)?;
     }

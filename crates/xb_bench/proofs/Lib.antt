@@ -1,4 +1,3 @@
-pub mod Attended
 pub mod Ended
 pub mod ObjectValues
 pub mod DrawnDigits

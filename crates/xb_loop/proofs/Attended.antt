@@ -5,36 +5,33 @@ use Rattle.std.proofs.KnownBytes.{Keeps-refl}
 use Rattle.clap.specs.Walk.{Text}
 use Rattle.xb_command.specs.Files.{Bytes}
 use Rattle.xb_command.specs.Programs.{Streams}
-use Rattle.xb_command.specs.Telling.{Tells}
-use Rattle.xb_command.specs.declared.telling.TheConstants.{FAULT}
+use Rattle.xb_command.specs.Works.{Runs}
 use Rattle.xb_loop.specs.declared.common.Common.{Common}
 use Rattle.xb_loop.specs.declared.fault.LoopFault.{LoopFault}
 use Rattle.xb_loop.specs.declared.fault.LoopFault.TheVariants as faults
 use Rattle.xb_feed.specs.declared.fault.RecordingFault.{RecordingFault}
 use Rattle.xb_feed.specs.declared.request.Request.{Request}
 use Rattle.xb_wires.specs.declared.listing.ListFault.{ListFault}
-use Rattle.xb_loop.specs.Options.{Asks}
 use Rattle.xb_feed.specs.LackedWires.{missing_name}
 use Rattle.xb_recording.specs.Says.{names_in}
 use Rattle.xb_wires.specs.Listing.{IsUnlisted}
-use Rattle.xb_loop.specs.Program.{AttendsLoop, FailsToGo, FailsToPrint, IsFaultOfRecording, PrintsDeck, IsListed, TellsOfBounces, TellsWires, program}
+use Rattle.xb_loop.specs.Program.{FailsToGo, HadFault, FailsToPrint, IsFaultOfRecording, PrintsDeck, IsListed, TellsOfBounces, TellsWires, WritesRows}
 
 -- all was written, and told or not
-pub attends_told :
-    (files : Bytes) (words : List Text) (request : Request Common) (told : List ℕ) (old new : Streams) (status : ℕ)
-    → Asks words request → (length request.lines.items == 0) ≡ false → PrintsDeck files request told old.input old.output new.output
-    → TellsOfBounces told old.errors new.errors status → AttendsLoop files words old new status
-attends_told files words request told old new status asks some rows (inl (is, wrote)) = record {
+pub told_or_not :
+    (name : Text) (files : Bytes) (request : Request Common) (told : List ℕ) (old new : Streams) (status : ℕ)
+    → (length request.lines.items == 0) ≡ false → PrintsDeck files request told old.input old.output new.output
+    → TellsOfBounces name told old.errors new.errors status
+    → Runs (WritesRows files request) (HadFault name files request) old new status
+told_or_not name files request told old new status some rows (inl (is, wrote)) = record {
   statuses = omega (arith, is);
-  done = λ e. record { request = request; asks = asks; some = some; told = told; rows = rows; errors = wrote };
+  done = λ e. record { some = some; told = told; rows = rows; errors = wrote };
   fault = λ e. absurd (omega (arith, is, e));
-  refused = λ e. absurd (omega (arith, is, e));
 }
-attends_told files words request told old new status asks some rows (inr (is, (begun, first, line))) = record {
+told_or_not name files request told old new status some rows (inr (is, (begun, first, line))) = record {
   statuses = omega (arith, is);
   done = λ e. absurd (omega (arith, is, e));
-  fault = λ e. inl (record { request = request; asks = asks; had = inr (told, begun, rows, first, line) });
-  refused = λ e. absurd (omega (arith, is, e));
+  fault = λ e. inr (told, begun, rows, first, line);
 }
 
 -- the fault of a recording as it is told
@@ -54,18 +51,6 @@ fails_to_print files request fault (faults.NoLine listing) input output after is
 fails_to_print files request fault (faults.Unlisted own) input output after is goes = absurd is
 fails_to_print files request fault faults.Tell input output after is goes = absurd is
 fails_to_print files request fault faults.NoMemory input output after is goes = absurd is
-
--- there was a fault
-pub attends_fault :
-    (files : Bytes) (words : List Text) (request : Request Common) (fault : LoopFault) (old new : Streams) (status : ℕ)
-    → Asks words request → FailsToPrint files request fault old.input old.output new.output → status ≡ FAULT
-    → Tells program None old.errors new.errors → AttendsLoop files words old new status
-attends_fault files words request fault old new status asks fails is line = record {
-  statuses = omega (arith, is);
-  done = λ e. absurd (omega (arith, is, e));
-  fault = λ e. inl (record { request = request; asks = asks; had = inl (fault, fails, line) });
-  refused = λ e. absurd (omega (arith, is, e));
-}
 
 -- no line was asked for
 pub lists_instead :

@@ -4,7 +4,6 @@ pub mod TapeLaws
 pub mod Contacts
 pub mod Watching
 pub mod BounceLines
-pub mod Rules
 pub mod Options
 pub mod Tables
 pub mod Program

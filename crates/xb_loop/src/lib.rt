@@ -9,10 +9,9 @@
 //!   `laws::each_line_has_the_record_of_its_wire` joins them with the rows (`WireRecords`).
 //! - `Contact`: what follows the contact of a line (`Follow` of `xb_feed`, which reads the recording): exactly the
 //!   rows of what the recording says of its wire, and of its bounces (`by_rows`).
-//! - `attend` (`AttendsLoop`): the words, the table and the recording in. On status 0, exactly the rows that
-//!   they ask for, and all that is told of the bounces. On status 1, the fault of what they ask for
-//!   (`HasFault`). Words are refused only where `clap` refuses them, or they ask for what there is not
-//!   (`AreRefused`).
+//! - `attend` (`by_loop`): the words as they were typed, the table and the recording in. On status 0, exactly the rows that
+//!   they ask for, and all that is told of the bounces. On status 1, the fault of what they ask for (`HadFault`). Words are
+//!   wrong only where `clap` refuses them, or they say what there is not.
 #![tactic(auto)]
 
 mod bounce_lines;
@@ -31,3 +30,4 @@ pub use contact::Contact;
 pub use fault::LoopFault;
 pub use program::attend;
 pub use rows::contact_of;
+pub use words::{Asked, PROGRAM};

@@ -52,7 +52,7 @@ const STANDARD_LEVEL: i16 = -72;
 const MOST_DETUNE: u16 = 500;
 
 // The greatest peak of noise.
-const MOST_NOISE_PEAK: u32 = 32_767;
+pub(crate) const MOST_NOISE_PEAK: u32 = 32_767;
 
 // The tenths that an option is given.
 fn figure_of(text: Option<&str>) -> Given<i16>
@@ -75,7 +75,7 @@ fn time_of_key(text: Option<&str>) -> Given<i16>
 }
 
 // The hole that a text says, as `10@20`.
-fn hole_said(text: &[u8]) -> Option<Hole>
+pub(crate) fn hole_said(text: &[u8]) -> Option<Hole>
     ensures { result ≡ hole_said text.now }
 {
     let (ms, from_ms) = cut_at(b'@', text)?;
@@ -96,7 +96,7 @@ fn hole_of(text: Option<&str>) -> Given<Hole>
 }
 
 // The amplitude of the level that a text says.
-fn level_said(text: &[u8]) -> Option<u16>
+pub(crate) fn level_said(text: &[u8]) -> Option<u16>
     ensures { result ≡ level_said text.now }
 {
     amplitude_of(signed_tenths(text)?, 0)
@@ -115,7 +115,7 @@ fn hz_said(text: &[u8]) -> Option<u16>
 }
 
 // The steady tone that a text says, as `2600:-13.5`.
-fn beside_said(text: &[u8]) -> Option<Beside>
+pub(crate) fn beside_said(text: &[u8]) -> Option<Beside>
     ensures { result ≡ beside_said text.now }
 {
     let (hz, level) = cut_at(b':', text)?;
@@ -146,7 +146,7 @@ fn amplitude_given(text: Option<&str>) -> Given<u16>
 }
 
 // What the words say of it.
-pub(crate) fn manner_of(words: &Words) -> Manner
+pub(crate) fn manner_of(words: &Words<'_>) -> Manner
     ensures { SayManner words.now result }
 {
     Manner {
@@ -166,7 +166,7 @@ pub(crate) fn manner_of(words: &Words) -> Manner
 }
 
 // The pitch of a detuning in tenths of a percent, which is 50 % at most.
-fn pitch_of(detune: i16) -> Option<u16>
+pub(crate) fn pitch_of(detune: i16) -> Option<u16>
     ensures { result ≡ pitch_of detune }
 {
     if detune.unsigned_abs() <= MOST_DETUNE {

@@ -5,16 +5,10 @@ use Rattle.xb_feed.specs.declared.words.TheConstants.{THRESHOLD_PERCENT}
 use Rattle.xb_feed.specs.Options.{form_asked}
 use Rattle.xb_feed.proofs.words.request_of.Goals as goal
 
-pub returns-in_err-threshold-clause-nothing : goal.returns-in_err-threshold-clause-nothing
-returns-in_err-threshold-clause-nothing g c =
-    let p = err_from_is_err_and c.from_residual-in_err-threshold.result c.from_residual-in_err-threshold.ensures.1 in
-    let given = c.number.result in
-    rw p.1 (λ refused.
-    inr (inl (unwrap_or given THRESHOLD_PERCENT, (given, c.number.ensures, refl), c.in_err-threshold.ensures.refused)))
-
 pub returns-clause-says : goal.returns-clause-says
 returns-clause-says g c = record {
-  table = c.text-2.ensures;
+  recording = c.text-2.ensures;
+  table = c.text-3.ensures;
   lossy = c.flag-lossy.ensures;
   format = ap (form_asked c.flag-lossy.result) (sym c.text.ensures) ∙ c.in_ok-format.ensures.asked;
   rate = search rules;
