@@ -17,7 +17,7 @@ refuses is refused before anything is made.
     mfjoin --list day.parts/parts.txt day.parts/*.page > day.page
 
 parts.txt is there only when all decks are whole: a run that was stopped at any moment leaves none. On a terminal
-the script bin/mfsplit shows how far it is, first as it counts the records and then as it writes them.
+the script that calls it shows how far it is, first as it counts the records and then as it writes them.
 
 The status is 0 for parts, 1 for a fault, and 2 where the words are refused.",
     words: &[
