@@ -4,6 +4,6 @@ ghost use Rattle.mfweb.specs.declared.status.TheConstants.{NO_CODE, NO_EAR};
 
 /// The statuses that the calls of other libraries do not have.
 pub fn constants()
-    ensures no_code { NO_CODE ≡ 20 }
-    ensures no_ear { NO_EAR ≡ 21 }
+    ensures no_code { NO_CODE ≡ 27 }
+    ensures no_ear { NO_EAR ≡ 28 }
 {}

@@ -3,8 +3,9 @@ use std::alloc::Global;
 use std::io::{Read, Write};
 use std::process::Abort;
 use std::test::Fail;
-use test_kit::{Beside, words_of};
-use xb_bench::attend;
+use test_kit::{Beside, Folder, words_of};
+use xb_bench::{PROGRAM, attend};
+use xb_command::Call;
 
 /// The first lines, where a dial of Bell is asked for.
 pub const BELL: &str = "dial: adjust 9.5-10.5, accept 8.0-11.0 pulses a second, 58.0-64.0 % break
@@ -20,7 +21,13 @@ pub fn attended<R: Read, W: Write>(
 ) -> Result<(u8, Vec<u8>), Fail> {
     let words = words_of(alloc, "mfbench", words)?;
     let mut told = Vec::new(alloc);
-    let status = attend(alloc, &words, reader, out, &mut told);
+    let call = Call {
+        program: &PROGRAM,
+        words: &words,
+        is_typed: false,
+        is_shown: false,
+    };
+    let status = attend(alloc, &call, &Folder(&[]), reader, out, &mut told);
     Ok((status, told))
 }
 

@@ -112,7 +112,7 @@ const CASES: [(&[u8], &str); 6] = [GOOD, UNENDED, SPOILED, DRIFT, BOUNCED, IDLE]
 #[test]
 fn tells_of_each_digit(rt: HostRuntime) -> Result<(), Fail> {
     for (recording, lines) in CASES {
-        check_lines(&rt, rt.alloc(), &["--line", "7=1"], recording, BELL, lines)?;
+        check_lines(&rt, rt.alloc(), &["--wire", "7=1"], recording, BELL, lines)?;
     }
     Ok(())
 }
@@ -123,7 +123,7 @@ fn goes_by_other_limits(rt: HostRuntime) -> Result<(), Fail> {
         check_lines(
             &rt,
             rt.alloc(),
-            &["--line", "7=1", "--limit", limits],
+            &["--wire", "7=1", "--limit", limits],
             recording,
             BELL,
             lines,

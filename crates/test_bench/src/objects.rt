@@ -73,7 +73,7 @@ fn tells_objects(rt: HostRuntime) -> Result<(), Fail> {
     for (recording, objects) in cases {
         let mut out = Vec::new(rt.alloc());
         let mut reader = recording;
-        let words = ["--line", "7=1", "--json"];
+        let words = ["--wire", "7=1", "--json"];
         let (status, told) = attended(rt.alloc(), &words, &mut reader, &mut out)?;
         assert_eq!(rt; status, 0, "{}", told.escape_ascii());
         assert!(rt;

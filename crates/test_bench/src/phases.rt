@@ -36,7 +36,7 @@ fn recording_at(alloc: Global, phase: u64) -> Result<String, AllocError> {
 fn reads_the_same_at_each_phase(rt: HostRuntime) -> Result<(), Fail> {
     for phase in 0..20u64 {
         let text = recording_at(rt.alloc(), phase)?;
-        let words = ["--line", "7=1"];
+        let words = ["--wire", "7=1"];
         check_lines(&rt, rt.alloc(), &words, text.as_bytes(), BELL, LINES)?;
     }
     Ok(())

@@ -114,7 +114,7 @@ fn draws_digits(rt: HostRuntime) -> Result<(), Fail> {
     for (recording, form, wanted) in cases {
         let mut out = Vec::new(rt.alloc());
         let mut reader = recording;
-        let words = ["--line", "7=1", form];
+        let words = ["--wire", "7=1", form];
         let (status, told) = attended(rt.alloc(), &words, &mut reader, &mut out)?;
         assert_eq!(rt; status, 0, "{}", told.escape_ascii());
         assert!(rt;

@@ -113,7 +113,7 @@ const BY_BELL: [(&[u8], &str); 13] = [
 // Words, a recording, the first line, and the others.
 const BY_WORDS: [(&[&str], &[u8], &str, &str); 4] = [
     (
-        &["--line", "7=1", "--dial", "gpo"],
+        &["--wire", "7=1", "--dial", "gpo"],
         b"0.000000,1\n0.400000,0\n0.466000,1\n0.500000,0\n0.566000,1\n0.600000,0\n0.666000,1\n0.700000,0\n\
 0.766000,1\n0.800000,0\n0.866000,1\n1.366000,0\n1.766000,0\n",
         "dial: adjust 9.0-11.0, accept 9.0-11.0 pulses a second, 63.0-70.0 % break
@@ -125,7 +125,7 @@ line  digit  pulses    p/s  % break     break ms      make ms  drift %  bounce m
 ",
     ),
     (
-        &["--line", "7=1", "--dial", "gpo"],
+        &["--wire", "7=1", "--dial", "gpo"],
         b"0.000000,1\n0.400000,0\n0.461500,1\n0.500000,0\n0.561500,1\n0.600000,0\n0.661500,1\n0.700000,0\n\
 0.761500,1\n0.800000,0\n0.861500,1\n1.361500,0\n1.761500,0\n",
         "dial: adjust 9.0-11.0, accept 9.0-11.0 pulses a second, 63.0-70.0 % break
@@ -137,7 +137,7 @@ line  digit  pulses    p/s  % break     break ms      make ms  drift %  bounce m
 ",
     ),
     (
-        &["--line", "7=1", "--speed", "9.8-10.2", "--share", "65-67.5"],
+        &["--wire", "7=1", "--speed", "9.8-10.2", "--share", "65-67.5"],
         b"0.000000,1\n0.400000,0\n0.466000,1\n0.500000,0\n0.566000,1\n0.600000,0\n0.666000,1\n0.700000,0\n\
 0.766000,1\n0.800000,0\n0.866000,1\n1.366000,0\n1.766000,0\n",
         "dial: adjust 9.8-10.2, accept 9.8-10.2 pulses a second, 65.0-67.5 % break
@@ -149,7 +149,7 @@ line  digit  pulses    p/s  % break     break ms      make ms  drift %  bounce m
 ",
     ),
     (
-        &["--line", "7=1", "--dial", "gpo", "--speed", "10.1-12"],
+        &["--wire", "7=1", "--dial", "gpo", "--speed", "10.1-12"],
         b"0.000000,1\n0.400000,0\n0.466000,1\n0.500000,0\n0.566000,1\n0.600000,0\n0.666000,1\n0.700000,0\n\
 0.766000,1\n0.800000,0\n0.866000,1\n1.366000,0\n1.766000,0\n",
         "dial: adjust 10.1-12.0, accept 10.1-12.0 pulses a second, 63.0-70.0 % break
@@ -165,7 +165,7 @@ line  digit  pulses    p/s  % break     break ms      make ms  drift %  bounce m
 #[test]
 fn judges_by_bell(rt: HostRuntime) -> Result<(), Fail> {
     for (recording, lines) in BY_BELL {
-        check_lines(&rt, rt.alloc(), &["--line", "7=1"], recording, BELL, lines)?;
+        check_lines(&rt, rt.alloc(), &["--wire", "7=1"], recording, BELL, lines)?;
     }
     Ok(())
 }

@@ -4,51 +4,45 @@ use std::io::ErrorKind;
 use std::test::Fail;
 use test_kit::{Halting, Short};
 
-const USAGE: &[u8] = b"mfbench: usage: mfbench --line N=WIRE[,inverted][,settle=MS]... \
-[--dial bell|gpo] [--speed FROM-TO] [--share FROM-TO] [--limit NAME=MS[,NAME=MS]...] \
-[--format vcd|sigrok|saleae|edges|gpiomon|bits|bits16|s16|wav] [--rate HZ] [--settle MS] \
-[--threshold PERCENT] [--inverted] [--html|--json|--svg]\n";
-
 const REFUSED: &[&[&str]] = &[
     &[],
-    &["--line", "7"],
-    &["--line", "7=1", "--line", "7=2"],
-    &["--help"],
+    &["--wire", "7"],
+    &["--wire", "7=1", "--wire", "7=2"],
     // a run has to settle in some ms, and each make seizes
-    &["--line", "7=1,settle=0"],
-    &["--line", "7=1", "--settle", "0"],
-    &["--line", "7=1,seize=150"],
-    &["--line", "7=1,ringing"],
-    &["--line", "7=1", "--seize", "150"],
-    &["--line", "7=1", "--tick", "20"],
-    &["--line", "7=1", "--table", "routes.toml"],
+    &["--wire", "7=1,settle=0"],
+    &["--wire", "7=1", "--settle", "0"],
+    &["--wire", "7=1,seize=150"],
+    &["--wire", "7=1,ringing"],
+    &["--wire", "7=1", "--seize", "150"],
+    &["--wire", "7=1", "--tick", "20"],
+    &["--wire", "7=1", "--table", "routes.toml"],
     // windows that are none
-    &["--line", "7=1", "--dial", "ibm"],
-    &["--line", "7=1", "--speed", "10"],
-    &["--line", "7=1", "--speed", "10.5-9.5"],
-    &["--line", "7=1", "--speed", "9.55-10.5"],
-    &["--line", "7=1", "--speed", "-10.5"],
-    &["--line", "7=1", "--share", "58-64%"],
-    &["--line", "7=1", "--share", "58-1001"],
+    &["--wire", "7=1", "--dial", "ibm"],
+    &["--wire", "7=1", "--speed", "10"],
+    &["--wire", "7=1", "--speed", "10.5-9.5"],
+    &["--wire", "7=1", "--speed", "9.55-10.5"],
+    &["--wire", "7=1", "--speed", "-10.5"],
+    &["--wire", "7=1", "--share", "58-64%"],
+    &["--wire", "7=1", "--share", "58-1001"],
     // limits that are none, that a route table may not have, or that are said twice
-    &["--line", "7=1", "--limit", "seize=150"],
-    &["--line", "7=1", "--limit", "pause"],
-    &["--line", "7=1", "--limit", "pause=0"],
-    &["--line", "7=1", "--limit", "pause=1000000"],
-    &["--line", "7=1", "--limit", "pulse_max=300"],
-    &["--line", "7=1", "--limit", "pause=200,timeout=200"],
-    &["--line", "7=1", "--limit", "pause=200,pause=210"],
+    &["--wire", "7=1", "--limit", "seize=150"],
+    &["--wire", "7=1", "--limit", "pause"],
+    &["--wire", "7=1", "--limit", "pause=0"],
+    &["--wire", "7=1", "--limit", "pause=1000000"],
+    &["--wire", "7=1", "--limit", "pulse_max=300"],
+    &["--wire", "7=1", "--limit", "pause=200,timeout=200"],
+    &["--wire", "7=1", "--limit", "pause=200,pause=210"],
     // two forms, and a plot of two lines
-    &["--line", "7=1", "--html", "--svg"],
-    &["--line", "7=1", "--html", "--json"],
-    &["--line", "7=1", "--json", "--svg"],
-    &["--line", "7=1", "--line", "8=2", "--svg"],
+    &["--wire", "7=1", "--html", "--svg"],
+    &["--wire", "7=1", "--html", "--json"],
+    &["--wire", "7=1", "--json", "--svg"],
+    &["--wire", "7=1", "--wire", "8=2", "--svg"],
 ];
 
-const WORDS: &[&str] = &["--line", "7=1"];
+const WORDS: &[&str] = &["--wire", "7=1"];
 
 // Of two wires that a recording of one lacks the first is told.
-const MISSING: &[&str] = &["--line", "7=A", "--line", "8=B", "--line", "9=C"];
+const MISSING: &[&str] = &["--wire", "7=A", "--wire", "8=B", "--wire", "9=C"];
 
 const ONE_WIRE: &[u8] = b"; Channels (1/1): A\n";
 
@@ -65,7 +59,9 @@ fn refuses_words(rt: HostRuntime) -> Result<(), Fail> {
         let mut reader = WRONG;
         let (status, told) = attended(rt.alloc(), words, &mut reader, &mut out)?;
         assert_eq!(rt; status, 2);
-        assert!(rt; told.as_slice() == USAGE, "{}", told.escape_ascii());
+        let is_line = told.starts_with(b"mfbench: ")
+            && told.ends_with(b"; mfbench --help says more\n");
+        assert!(rt; is_line, "{}", told.escape_ascii());
         assert!(rt; out.is_empty());
     }
     Ok(())

@@ -25,14 +25,14 @@ const FILES: Folder = Folder(&[
 const CASES: &[Case] = &[
     (&[], b"", 0, b"line,state,ms\n", b""),
     (
-        &["--any"],
+        &["--incomplete"],
         b"# a call\n7 2-1\n",
         0,
         b"line,state,ms\n7,M,500\n7,B,60\n7,M,40\n7,B,60\n7,M,600\n7,B,60\n7,M,600\n",
         b"",
     ),
     (
-        &["--any", "--speed", "20", "--in-turn"],
+        &["--incomplete", "--speed", "20", "--in-turn"],
         b"7 2\n5 1\n7 1\n",
         0,
         b"line,state,ms\n5,M,500\n7,M,500\n5,B,30\n7,B,30\n5,M,600\n7,M,20\n7,B,30\n7,M,600
@@ -41,7 +41,7 @@ const CASES: &[Case] = &[
     ),
     (
         &[
-            "--any",
+            "--incomplete",
             "--break=20",
             "--make",
             "15",
@@ -60,7 +60,7 @@ const CASES: &[Case] = &[
     // of 21 and 1 the 2 has a long break and one pulse too many, the 1 a flash; the second call a preliminary pulse
     (
         &[
-            "--any",
+            "--incomplete",
             "--fault",
             "1.1.2:break=130,1.1.1:extra,1.2:flash=90,2:preliminary=30",
         ],
@@ -72,7 +72,11 @@ const CASES: &[Case] = &[
     ),
     // a lost pulse and a short pause, and each pulse half as long again for each before it
     (
-        &["--any", "--slow=50", "--fault=1.2:pause=100,1.1.2:lost"],
+        &[
+            "--incomplete",
+            "--slow=50",
+            "--fault=1.2:pause=100,1.1.2:lost",
+        ],
         b"7 32\n",
         0,
         b"line,state,ms\n7,M,500\n7,B,60\n7,M,40\n7,B,120\n7,M,600\n7,B,60\n7,M,40\n7,B,90\n7,M,100\n",
@@ -80,14 +84,14 @@ const CASES: &[Case] = &[
     ),
     // times beyond the limits
     (
-        &["--any", "--beyond", "--break=300", "--make=1"],
+        &["--incomplete", "--out-of-limits", "--break=300", "--make=1"],
         b"7 2\n",
         0,
         b"line,state,ms\n7,M,500\n7,B,300\n7,M,1\n7,B,300\n7,M,600\n",
         b"",
     ),
     (
-        &["--any", "--beyond", "--make=0"],
+        &["--incomplete", "--out-of-limits", "--make=0"],
         b"7 1\n7 2\n",
         1,
         b"",
@@ -110,7 +114,7 @@ const CASES: &[Case] = &[
     ),
     // the contact of a line: open for a second, the 1, and open for a second more
     (
-        &["--any", "--vcd"],
+        &["--incomplete", "--vcd"],
         b"7 1\n",
         0,
         b"$timescale 1 us $end\n$var wire 1 ! loop $end\n$enddefinitions $end
@@ -191,8 +195,8 @@ const CASES: &[Case] = &[
         b"mfdial: text line 1 has a number that goes on after it is complete\n",
     ),
     // a file in place of the input, which is left alone
-    (&["--any", "calls.txt"], b"x", 0, SEVEN_ONE, b""),
-    (&["--any", "-"], b"7 1", 0, SEVEN_ONE, b""),
+    (&["--incomplete", "calls.txt"], b"x", 0, SEVEN_ONE, b""),
+    (&["--incomplete", "-"], b"7 1", 0, SEVEN_ONE, b""),
     (
         &["none.txt"],
         b"7 0",

@@ -1,4 +1,5 @@
 // Streams that fail: exactly the entries before the fault are printed.
+use crate::called::attend;
 use crate::reckoned::{BEGINNING, END, END_EVENTS, EVENTS, KEYED, LAST, REFUSED, joined};
 use crate::statuses::Mflive;
 use std::alloc::Global;
@@ -6,7 +7,6 @@ use std::io::ErrorKind;
 use std::process::Abort;
 use std::test::Fail;
 use test_kit::{Halting, Short, check_writes, words_of};
-use xb_live::attend;
 
 // After how many bytes of the deck reading fails, and what is printed then. Record 23, which completes the
 // second entry, is the last of the beginning.

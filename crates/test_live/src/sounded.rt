@@ -1,4 +1,5 @@
 // The sound of a line's trunk: as many samples as its rows last, and the keys of its calls where they are due.
+use crate::called::attend;
 use crate::reckoned::{BEGINNING, END, joined};
 use crate::statuses::Mflive;
 use std::alloc::Global;
@@ -6,7 +7,6 @@ use std::io::ErrorKind;
 use std::process::Abort;
 use std::test::Fail;
 use test_kit::{Halting, check_writes, words_of};
-use xb_live::attend;
 
 // The words after the program's name, how many samples are written of the deck, and which of them is the first that is
 // not 0.

@@ -1,10 +1,10 @@
 // The sound of a line whose calls are keyed once a wink of another line came.
+use crate::called::attend;
 use crate::reckoned::{BEGINNING, joined};
 use std::alloc::Global;
 use std::process::Abort;
 use std::test::Fail;
 use test_kit::words_of;
-use xb_live::attend;
 
 // The rows after the first ones, how many samples are written, which of them is the first that is not 0, and how many
 // keyings are given up.

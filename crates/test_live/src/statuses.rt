@@ -1,4 +1,5 @@
 // Words and decks in; a status, entries, and lines of faults out.
+use crate::called::attend;
 use crate::reckoned::{
     BEGINNING, END, END_EVENTS, EVENTS, KEYED, LAST, LAST_EVENTS, MARK_OBJECTS, MARKS, OBJECTS,
     REFUSED, TIMED_OBJECTS, joined,
@@ -6,7 +7,6 @@ use crate::reckoned::{
 use std::alloc::Global;
 use std::test::Fail;
 use test_kit::{Gives, Halting, Program, Short, check_status};
-use xb_live::attend;
 
 /// The program `mflive`.
 #[derive(Clone, Copy)]
@@ -29,10 +29,6 @@ impl Program for Mflive {
     }
 }
 
-const USAGE: &[u8] =
-    b"mflive: usage: mflive [--json [--since TIME]] [--marks] [--events [--since TIME]] \
-[--sound N [--start M] [--lead N] [--kp N] [--key N] [--gap N]]\n";
-
 // The words after the program's name, the parts of the deck, the status, the parts of what is printed, and
 // what stands on standard error.
 type Case = (
@@ -46,7 +42,7 @@ type Case = (
 const CASES: &[Case] = &[
     (&[], &[BEGINNING, END], 0, &[KEYED, REFUSED, LAST], b""),
     (
-        &["--marks"],
+        &["--by-key"],
         &[BEGINNING, END],
         0,
         &[MARKS, REFUSED, LAST],
@@ -54,7 +50,7 @@ const CASES: &[Case] = &[
     ),
     (&["--json"], &[BEGINNING, END], 0, &[OBJECTS], b""),
     (
-        &["--marks", "--json"],
+        &["--by-key", "--json"],
         &[BEGINNING, END],
         0,
         &[MARK_OBJECTS],
@@ -103,7 +99,7 @@ const CASES: &[Case] = &[
         b"mflive: loop rows: record 24 has a wrong state\n",
     ),
     (
-        &["--marks"],
+        &["--by-key"],
         &[BEGINNING, b"10000,M,60\n", END],
         1,
         &[MARKS, REFUSED],
@@ -123,25 +119,70 @@ const CASES: &[Case] = &[
         &[],
         b"mflive: route table: plan is neither 7 nor 10\n",
     ),
-    (&["--json", "--since", "noon"], &[BEGINNING], 2, &[], USAGE),
     (
-        &["--marks", "--since", "2026-12-31T23:59:58Z"],
+        &["--json", "--since", "noon"],
         &[BEGINNING],
         2,
         &[],
-        USAGE,
+        b"mflive: invalid value 'noon' for '--since': a time begins with its date, as 2026-11-25T20:00:00Z; mflive --help says more\n",
     ),
     (
-        &["--events", "--since", "noon"],
+        &["--by-key", "--since", "2026-12-31T23:59:58Z"],
         &[BEGINNING],
         2,
         &[],
-        USAGE,
+        b"mflive: --since wants --json or --events; mflive --help says more\n",
     ),
-    (&["--events", "--marks"], &[BEGINNING], 2, &[], USAGE),
-    (&["--mark"], &[BEGINNING], 2, &[], USAGE),
-    (&["--help"], &[BEGINNING], 2, &[], USAGE),
-    (&["deck"], &[BEGINNING], 2, &[], USAGE),
+    (
+        &["--events", "--since", "2026-12-31T25:00Z"],
+        &[BEGINNING],
+        2,
+        &[],
+        b"mflive: invalid value '2026-12-31T25:00Z' for '--since': a time has an hour from 00 to 23, as 2026-11-25T20:00:00Z; mflive --help says more\n",
+    ),
+    (
+        &["--events", "--by-key"],
+        &[BEGINNING],
+        2,
+        &[],
+        b"mflive: --events and --by-key do not go together; mflive --help says more\n",
+    ),
+    (
+        &["--by-keys"],
+        &[BEGINNING],
+        2,
+        &[],
+        b"mflive: there is no option '--by-keys'; a similar argument exists: '--by-key'; mflive --help says more\n",
+    ),
+    (
+        &["day.deck", "more"],
+        &[BEGINNING],
+        2,
+        &[],
+        b"mflive: there is one word too many, 'more'; mflive --help says more\n",
+    ),
+    (&["--version"], &[BEGINNING], 0, &[b"mflive 0.5\n"], b""),
+    (
+        &["day.deck"],
+        &[BEGINNING],
+        0,
+        &[b"0007 1 REFUSED ABANDONED 0\nKEYED 0 REFUSED 1\n"],
+        b"",
+    ),
+    (
+        &["none"],
+        &[BEGINNING],
+        1,
+        &[],
+        b"mflive: none: entity not found\n",
+    ),
+    (
+        &["call.wav"],
+        &[BEGINNING],
+        1,
+        &[],
+        b"mflive: call.wav: it is a sound, which mfrx and mfloop take\n",
+    ),
 ];
 
 // The same of words that ask for a sound, and get none.
@@ -160,26 +201,62 @@ const OF_SOUND: &[Case] = &[
         &[],
         b"mflive: the deck has no line ---\n",
     ),
-    (&["--sound", "10000"], &[BEGINNING], 2, &[], USAGE),
-    (&["--start", "8"], &[BEGINNING], 2, &[], USAGE),
+    (
+        &["--sound", "10000"],
+        &[BEGINNING],
+        2,
+        &[],
+        b"mflive: invalid value '10000' for '--sound <N>': 10000 is not in 0..=9999; mflive --help says more\n",
+    ),
+    (
+        &["--start", "8"],
+        &[BEGINNING],
+        2,
+        &[],
+        b"mflive: --start wants --sound; mflive --help says more\n",
+    ),
     (
         &["--sound", "7", "--start", "7"],
         &[BEGINNING],
         2,
         &[],
-        USAGE,
+        b"mflive: invalid value '7' for '--start': the E lead of a trunk is another line than the one that sounds; mflive --help says more\n",
     ),
     (
         &["--sound", "7", "--start", "10000"],
         &[BEGINNING],
         2,
         &[],
-        USAGE,
+        b"mflive: invalid value '10000' for '--start <M>': 10000 is not in 0..=9999; mflive --help says more\n",
     ),
-    (&["--sound", "7", "--json"], &[BEGINNING], 2, &[], USAGE),
-    (&["--sound", "7", "--marks"], &[BEGINNING], 2, &[], USAGE),
-    (&["--sound", "7", "--events"], &[BEGINNING], 2, &[], USAGE),
-    (&["--lead", "0"], &[BEGINNING], 2, &[], USAGE),
+    (
+        &["--sound", "7", "--json"],
+        &[BEGINNING],
+        2,
+        &[],
+        b"mflive: --sound and --json do not go together; mflive --help says more\n",
+    ),
+    (
+        &["--sound", "7", "--by-key"],
+        &[BEGINNING],
+        2,
+        &[],
+        b"mflive: --sound and --by-key do not go together; mflive --help says more\n",
+    ),
+    (
+        &["--sound", "7", "--events"],
+        &[BEGINNING],
+        2,
+        &[],
+        b"mflive: --sound and --events do not go together; mflive --help says more\n",
+    ),
+    (
+        &["--lead", "0"],
+        &[BEGINNING],
+        2,
+        &[],
+        b"mflive: --lead wants --sound; mflive --help says more\n",
+    ),
 ];
 
 // Checks what is printed of the parts of a deck.

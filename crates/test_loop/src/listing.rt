@@ -1,4 +1,4 @@
-// The wires of a recording, where no line is asked for.
+// The wires of a recording: where no line is asked for, and where they are.
 use crate::attending::{Case, check_reader};
 use std::test::Fail;
 
@@ -98,6 +98,76 @@ fn tells_what_has_no_form(rt: HostRuntime) -> Result<(), Fail> {
     let mut reader = b"hello\n".as_slice();
     let case = Case {
         words: &[],
+        recording: b"hello\n",
+        rows: b"",
+        told: b"mfloop: the recording: the form of the recording cannot be told: give --format\n",
+    };
+    check_reader(&rt, rt.alloc(), &mut reader, &case, 1)
+}
+
+// Words, a recording, the lines of its wires, and what is told.
+type Printed = (
+    &'static [&'static str],
+    &'static [u8],
+    &'static [u8],
+    &'static [u8],
+);
+
+const PRINTED: &[Printed] = &[
+    // edges stand after a tab; an escape in a name is printed as a question mark
+    (
+        &["--list"],
+        b"$timescale 1 ms $end\n$var wire 1 ! D0 $end\n$var wire 1 \" D\x1b1 $end\n$enddefinitions $end\n\
+#0 0! 1\"\n#10 1!\n#20 0!\n#30 1!\n",
+        b"D0\t3\nD?1\t0\n",
+        b"",
+    ),
+    // names alone: one that stands at x hinders the count
+    (
+        &["--list"],
+        b"$timescale 1 ms $end\n$var wire 1 ! D0 $end\n$var wire 1 \" D1 $end\n$enddefinitions $end\n#0 0! x\"\n",
+        b"D0\nD1\n",
+        b"",
+    ),
+    // a form that has to be named, and its rate
+    (
+        &["--list", "--format", "bits", "--rate", "1000"],
+        b"\x00\x01\x01\x80",
+        b"0\t2\n1\t0\n2\t0\n3\t0\n4\t0\n5\t0\n6\t0\n7\t1\n",
+        b"",
+    ),
+    // more than 32 columns
+    (
+        &["--list"],
+        b"0,0,0,0,0,0,0,0,0,0,0,0,0,0,0,0,0,0,0,0,0,0,0,0,0,0,0,0,0,0,0,0,0,0\n1,x\n",
+        b"1\n2\n3\n4\n5\n6\n7\n8\n9\n10\n11\n12\n13\n14\n15\n16\n17\n18\n19\n20\n21\n22\n23\n24\n25\n26\n27\n28\n29\n30\n\
+31\n32\n",
+        b"mfloop: the recording has more wires than these 32\n",
+    ),
+    // none is named
+    (&["--list", "--format", "gpiomon"], b"", b"", b""),
+];
+
+#[test]
+fn prints_the_wires(rt: HostRuntime) -> Result<(), Fail> {
+    for (words, recording, rows, told) in PRINTED {
+        let mut reader = *recording;
+        let case = Case {
+            words,
+            recording,
+            rows,
+            told,
+        };
+        check_reader(&rt, rt.alloc(), &mut reader, &case, 0)?;
+    }
+    Ok(())
+}
+
+#[test]
+fn prints_no_wires_of_what_has_no_form(rt: HostRuntime) -> Result<(), Fail> {
+    let mut reader = b"hello\n".as_slice();
+    let case = Case {
+        words: &["--list"],
         recording: b"hello\n",
         rows: b"",
         told: b"mfloop: the recording: the form of the recording cannot be told: give --format\n",

@@ -11,7 +11,7 @@ const LOST: &[u8] =
 const CASES: &[Case<'static>] = &[
     // the second edge of one direction changes nothing
     Case {
-        words: &["--line", "7=17", "--lossy"],
+        words: &["--wire", "7=17", "--lossy"],
         recording: LOST,
         rows: b"line,state,ms\n7,M,500\n7,B,61\n7,M,439\n7,B,1000\n",
         told: b"line 7: lost edges: 2\n",
@@ -19,12 +19,12 @@ const CASES: &[Case<'static>] = &[
     // by line, after the bounces; line 8 loses none
     Case {
         words: &[
-            "--line",
+            "--wire",
             "7=17,inverted",
-            "--line",
+            "--wire",
             "8=4",
             "--lossy",
-            "--said",
+            "--bounces",
             "--format",
             "gpiomon",
         ],
@@ -34,7 +34,7 @@ const CASES: &[Case<'static>] = &[
     },
     // none is lost
     Case {
-        words: &["--line", "8=4", "--lossy"],
+        words: &["--wire", "8=4", "--lossy"],
         recording: LOST,
         rows: b"line,state,ms\n8,M,1900\n",
         told: b"",
@@ -53,19 +53,19 @@ fn tells_the_lost_edges(rt: HostRuntime) -> Result<(), Fail> {
 // Without --lossy the first one is refused, and so is a time that falls with it, or another form.
 const REFUSED: &[Case<'static>] = &[
     Case {
-        words: &["--line", "7=17"],
+        words: &["--wire", "7=17"],
         recording: LOST,
         rows: b"line,state,ms\n7,M,500\n",
         told: b"mfloop: text line 5: an edge is lost: two of one direction follow each other: 1.600.rising.gpiochip0 17\n",
     },
     Case {
-        words: &["--line", "7=17", "--lossy"],
+        words: &["--wire", "7=17", "--lossy"],
         recording: b"1.000\trising\tgpiochip0 17\n0.900\trising\tgpiochip0 17\n",
         rows: b"line,state,ms\n",
         told: b"mfloop: text line 2: the time is before the last one: 0.900.rising.gpiochip0 17\n",
     },
     Case {
-        words: &["--line", "7=1", "--lossy"],
+        words: &["--wire", "7=1", "--lossy"],
         recording: b"0,0\n0.010,1\n",
         rows: b"line,state,ms\n",
         told: b"mfloop: text line 1: a line of gpiomon was wanted: 0,0\n",

@@ -24,7 +24,7 @@ const VCDS: &[Refused] = &[
         b"mfloop: text line 4: no word of a VCD stands there: 7,M,61\n",
     ),
     (
-        &["7=D0", "--line", "8=D9", "--line", "9=D8"],
+        &["7=D0", "--wire", "8=D9", "--wire", "9=D8"],
         b"$timescale 1 ms $end\n$var wire 1 ! D0 $end\n$enddefinitions $end\n",
         b"mfloop: the recording has no wire D9; text line 3: no wire has a name that is asked for: $enddefinitions $end\n",
     ),
@@ -77,7 +77,7 @@ const TABLES: &[Refused] = &[
         b"mfloop: text line 2: the sample rate is not known: give --rate: logic\n",
     ),
     (
-        &["7=A", "--line", "8=B,settle=0"],
+        &["7=A", "--wire", "8=B,settle=0"],
         b"; Channels (1/1): A\n",
         b"mfloop: the recording has no wire B; text line 1: no wire has a name that is asked for: ; Channels (1/1): A\n",
     ),

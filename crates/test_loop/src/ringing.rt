@@ -60,7 +60,7 @@ fn night(alloc: Global) -> Result<Vec<u8>, Fail> {
 
 const WORDS: &[&[&str]] = &[
     &[
-        "--line",
+        "--wire",
         "7=0",
         "--format",
         "bits",
@@ -69,7 +69,7 @@ const WORDS: &[&[&str]] = &[
         "--ringing",
     ],
     &[
-        "--line",
+        "--wire",
         "7=0,ringing",
         "--format",
         "bits",
@@ -77,7 +77,7 @@ const WORDS: &[&[&str]] = &[
         "1000",
     ],
     &[
-        "--line",
+        "--wire",
         "7=0,ringing,seize=300",
         "--format",
         "bits",

@@ -129,7 +129,7 @@ fn reads_sixteen_wires(rt: HostRuntime) -> Result<(), Fail> {
     for step in [1, 3, 8_192] {
         let mut reader = Halting::new(SIXTEEN, step);
         let case = Case {
-            words: &["--format", "bits16", "--rate", "200", "--line", "7=10"],
+            words: &["--format", "bits16", "--rate", "200", "--wire", "7=10"],
             recording: SIXTEEN,
             rows: ROWS,
             told: b"",
@@ -173,7 +173,7 @@ fn refuses_sixteen_wires_as_eight(rt: HostRuntime) -> Result<(), Fail> {
         ] {
             let mut reader = Halting::new(recording, step);
             let case = Case {
-                words: &["--format", form, "--rate", "1000", "--line", "7=0"],
+                words: &["--format", form, "--rate", "1000", "--wire", "7=0"],
                 recording,
                 rows,
                 told,
@@ -194,7 +194,7 @@ fn judges_the_end_of_a_sound(rt: HostRuntime) -> Result<(), Fail> {
             recording.extend_from_slice(bytes)?;
             let mut reader = Halting::new(&recording, step);
             let case = Case {
-                words: &["--line", "7=1"],
+                words: &["--wire", "7=1"],
                 recording: &recording,
                 rows,
                 told,
@@ -223,7 +223,7 @@ fn advises_a_threshold_for_quiet_sound(rt: HostRuntime) -> Result<(), Fail> {
         }
         let mut reader = recording.as_slice();
         let case = Case {
-            words: &["--line", *wire],
+            words: &["--wire", *wire],
             recording: &recording,
             rows,
             told: &told,

@@ -2,8 +2,8 @@
 use crate::tables::FOLDER;
 use std::alloc::Global;
 use std::test::Fail;
-use test_kit::{Gives, Halting, Program, Short, check_status};
-use xb_route::attend;
+use test_kit::{Gives, Halting, Program, Short, called, check_status};
+use xb_route::{PROGRAM, attend};
 
 /// The program `mfroute`.
 #[derive(Clone, Copy)]
@@ -22,7 +22,7 @@ impl Program for Mfroute {
         out: &mut Short,
         err: &mut Vec<u8>,
     ) -> u8 {
-        attend(alloc, words, &FOLDER, reader, out, err)
+        attend(alloc, &called(&PROGRAM, words), &FOLDER, reader, out, err)
     }
 }
 
@@ -36,7 +36,14 @@ type Case = (
     &'static [u8],
 );
 
-const USAGE: &[u8] = b"mfroute: usage: mfroute [--json] TABLE [NUMBER...]\n";
+// Of words that name no table.
+const NO_TABLE: &[u8] =
+    b"mfroute: the following required arguments were not provided: <TABLE>; mfroute --help says more\n";
+
+// Of a table and numbers that would both be standard input.
+const BOTH: &[u8] =
+    b"mfroute: invalid value '-' for 'TABLE': standard input is the table, so at least one \
+NUMBER is wanted; mfroute --help says more\n";
 
 const NO_NUMBERS: &[u8] = b"mfroute: there are no numbers\n";
 
@@ -200,11 +207,57 @@ const CASES: &[Case] = &[
         b"",
         b"mfroute: text line 2 has no digits\n",
     ),
+    // standard input by its name: the table, or the numbers
+    (
+        &["-", "0"],
+        b"234",
+        0,
+        b"0 KEYED 0001 KP:1100+1700 0:1300+1500 ST:1500+1700\n",
+        b"",
+    ),
+    (&["seven", "-"], b"234\n", 0, b"234 INCOMPLETE 3\n", b""),
+    (&["-"], b"", 2, b"", BOTH),
+    (&["--json", "-", "-"], b"", 2, b"", BOTH),
+    (
+        &["seven", "0", "-"],
+        b"",
+        1,
+        b"",
+        b"mfroute: number 2 has no digits\n",
+    ),
+    // files that are no tables
+    (
+        &["none", "0"],
+        b"",
+        1,
+        b"",
+        b"mfroute: the route table could not be read: none: entity not found\n",
+    ),
+    (
+        &["a\nsound", "0"],
+        b"",
+        1,
+        b"",
+        b"mfroute: the route table could not be read: a?sound: it is a sound, which mfrx and mfloop take\n",
+    ),
+    (
+        &["wide", "0"],
+        b"",
+        1,
+        b"",
+        b"mfroute: the route table could not be read: wide: it is UTF-16, and UTF-8 is taken: iconv -f UTF-16 -t \
+UTF-8 makes that of it\n",
+    ),
     // refused words
-    (&[], b"0", 2, b"", USAGE),
-    (&["--json"], b"0", 2, b"", USAGE),
-    (&["--help"], b"0", 2, b"", USAGE),
-    (&["seven", "--line", "0"], b"", 2, b"", USAGE),
+    (&[], b"0", 2, b"", NO_TABLE),
+    (&["--json"], b"0", 2, b"", NO_TABLE),
+    (
+        &["seven", "--line", "0"],
+        b"",
+        2,
+        b"",
+        b"mfroute: there is no option '--line'; mfroute --help says more\n",
+    ),
 ];
 
 #[test]

@@ -5,15 +5,16 @@ use std::alloc::Global;
 use std::io::ErrorKind;
 use std::process::Abort;
 use std::test::Fail;
-use test_kit::{Halting, Short, check_writes, words_of};
-use xb_route::attend;
+use test_kit::{Halting, Short, called, check_writes, words_of};
+use xb_route::{PROGRAM, attend};
 
 // Reads so many bytes of numbers, and then fails: nothing is written.
 fn check_read(rt: &impl Abort, alloc: Global, words: &[String], numbers: &[u8], place: usize) {
     let mut reader = Halting::failing(numbers, 4, place, ErrorKind::Interrupted);
     let mut out = Vec::new(alloc);
     let mut err = Vec::new(alloc);
-    let got = attend(alloc, words, &FOLDER, &mut reader, &mut out, &mut err);
+    let call = called(&PROGRAM, words);
+    let got = attend(alloc, &call, &FOLDER, &mut reader, &mut out, &mut err);
     assert_eq!(rt; got, 1, "{place}");
     assert!(rt; out.is_empty(), "{place}");
     let line = b"mfroute: the numbers could not be read\n".as_slice();
@@ -49,7 +50,8 @@ fn check_flush(rt: &impl Abort, alloc: Global, words: &[String]) {
     let mut out = Short::new(alloc, 4096, None);
     out.flush = Some(ErrorKind::Other);
     let mut err = Vec::new(alloc);
-    let got = attend(alloc, words, &FOLDER, &mut numbers, &mut out, &mut err);
+    let call = called(&PROGRAM, words);
+    let got = attend(alloc, &call, &FOLDER, &mut numbers, &mut out, &mut err);
     assert_eq!(rt; got, 1);
     assert!(rt; out.taken.as_slice() == LINE);
     assert!(rt; err.as_slice() == NOT_WRITTEN);

@@ -32,4 +32,7 @@ pub(crate) const FOLDER: Folder = Folder(&[
     ("no toml", b"["),
     ("no trunk", b"[[route]]\ncode = \"234\"\n"),
     ("wrong plan", b"plan = 8\n"),
+    ("/dev/stdin", SEVEN),
+    ("a\nsound", b"RIFF\x24\0\0\0WAVEfmt "),
+    ("wide", b"\xff\xfep\0"),
 ]);

@@ -1,6 +1,7 @@
 // The words of each fault that is not among the statuses, as the table of faults has them.
 use std::io::{self, ErrorKind};
 use std::test::Fail;
+use xb_command::OpenFault;
 use xb_outgoing::OutgoingFault;
 use xb_route::{NumberFault, RoutingFault};
 use xb_routes::RouteFault;
@@ -27,8 +28,8 @@ fn words_of_faults(rt: HostRuntime) -> Result<(), Fail> {
         assert_eq!(rt; written.as_str(), words);
     }
     let error = io::Error::from(ErrorKind::NotFound);
-    let file = RoutingFault::File(error);
+    let file = RoutingFault::File(OpenFault::System("own.routes", error));
     let written = format!(in rt.alloc(); "{file}")?;
-    assert!(rt; written.starts_with("the route table could not be read: "));
+    assert!(rt; written.starts_with("the route table could not be read: own.routes: "));
     Ok(())
 }

@@ -4,7 +4,7 @@
 #![tactic(auto)]
 
 #[cfg(test)]
-mod folder;
+mod calling;
 #[cfg(test)]
 mod forms;
 #[cfg(test)]

@@ -1,11 +1,10 @@
 // The page of a sound that xb_sound wrote.
-use crate::folder::FOLDER;
+use crate::calling::heard;
 use sha1::Sha1;
 use std::alloc::Global;
 use std::test::Fail;
 use test_kit::marks::keying;
 use test_kit::words_of;
-use xb_rx::attend;
 use xb_sound::{Cadence, write_wav};
 
 // The page of two keyings, worked out by hand.
@@ -115,7 +114,7 @@ fn written(
     let mut reader = file.as_slice();
     let mut out = Vec::new(alloc);
     let mut err = Vec::new(alloc);
-    let status = attend(alloc, &words, &FOLDER, &mut reader, &mut out, &mut err);
+    let status = heard(alloc, &words, &mut reader, &mut out, &mut err);
     if status != wanted || (status == 0 && !err.is_empty()) {
         return Err("another status".into());
     }
@@ -177,7 +176,7 @@ fn heard_by(
     let mut reader = file;
     let mut out = Vec::new(alloc);
     let mut err = Vec::new(alloc);
-    if attend(alloc, &words, &FOLDER, &mut reader, &mut out, &mut err) != wanted {
+    if heard(alloc, &words, &mut reader, &mut out, &mut err) != wanted {
         return Err("another status".into());
     }
     Ok((out, err))

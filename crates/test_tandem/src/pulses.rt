@@ -1,6 +1,6 @@
 // Calls that go out by dial pulses, at values that were reckoned by hand.
 use crate::cases::{Piece, text_of};
-use crate::statuses::{Mftandem, USAGE};
+use crate::statuses::Mftandem;
 use std::test::Fail;
 use test_kit::{Gives, check_status, check_writes};
 
@@ -96,7 +96,13 @@ const CASES: &[Case] = &[
         b"",
         b"mftandem: route table: route 2 is not sent as an earlier one of its trunk\n",
     ),
-    (&["pulsed", "--rows", "--json"], b"", 2, b"", USAGE),
+    (
+        &["pulsed", "--rows", "--json"],
+        b"",
+        2,
+        b"",
+        b"mftandem: --rows and --json do not go together; mftandem --help says more\n",
+    ),
 ];
 
 #[test]

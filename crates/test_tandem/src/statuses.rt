@@ -2,8 +2,8 @@
 use crate::tables::FOLDER;
 use std::alloc::Global;
 use std::test::Fail;
-use test_kit::{Gives, Halting, Program, Short, check_status};
-use xb_tandem::attend;
+use test_kit::{Gives, Halting, Program, Short, called, check_status};
+use xb_tandem::{PROGRAM, attend};
 
 /// The program `mftandem`.
 #[derive(Clone, Copy)]
@@ -22,7 +22,7 @@ impl Program for Mftandem {
         out: &mut Short,
         err: &mut Vec<u8>,
     ) -> u8 {
-        attend(alloc, words, &FOLDER, reader, out, err)
+        attend(alloc, &called(&PROGRAM, words), &FOLDER, reader, out, err)
     }
 }
 
@@ -36,8 +36,10 @@ type Case = (
     &'static [u8],
 );
 
-pub(crate) const USAGE: &[u8] =
-    b"mftandem: usage: mftandem [--json] [--rows] [--line N] [--timeout MS] TABLE [KEYS]\n";
+// Of a table and keys that would both be standard input.
+const BOTH: &[u8] =
+    b"mftandem: invalid value '-' for 'TABLE': standard input is the table, so the file of KEYS is \
+wanted; mftandem --help says more\n";
 
 // KP 2 3 4 5 ST, KP 5 5 5 ST, KP 9 ST: each key of 68 ms, and one object that is no key.
 const KEYS: &[u8] = b"{\"at_ms\":0,\"key\":\"KP\",\"length_ms\":68}\r\n\
@@ -161,12 +163,76 @@ const CASES: &[Case] = &[
         b"",
         b"mftandem: route table: route 1 has a wrong shape\n",
     ),
+    // standard input by its name: the table, or the keys
+    (
+        &["-", "zero.keys"],
+        b"x",
+        0,
+        b"0000 1 KEYED 0001 KP:1100+1700 0:1300+1500 ST:1500+1700\nKEYED 1 REFUSED 0\n",
+        b"",
+    ),
+    (&["seven", "-"], b"", 0, b"KEYED 0 REFUSED 0\n", b""),
+    (&["-"], b"", 2, b"", BOTH),
+    (&["-", "-"], b"", 2, b"", BOTH),
+    // files that are none, the keys first
+    (
+        &["no file", "no keys"],
+        b"",
+        1,
+        b"",
+        b"mftandem: no keys: entity not found\n",
+    ),
+    (
+        &["no file", "zero.keys"],
+        b"",
+        1,
+        b"",
+        b"mftandem: the route table could not be read: no file: entity not found\n",
+    ),
+    (
+        &["a sound"],
+        b"",
+        1,
+        b"",
+        b"mftandem: the route table could not be read: a sound: it is a sound, which mfrx and mfloop take\n",
+    ),
+    (
+        &["seven", "a sound"],
+        b"",
+        1,
+        b"",
+        b"mftandem: text line 1 is no JSON object\n",
+    ),
     // refused words
-    (&[], b"", 2, b"", USAGE),
-    (&["--help"], b"", 2, b"", USAGE),
-    (&["seven", "--line", "10000"], b"", 2, b"", USAGE),
-    (&["seven", "--timeout", "-1"], b"", 2, b"", USAGE),
-    (&["seven", "keys"], b"", 2, b"", USAGE),
+    (
+        &[],
+        b"",
+        2,
+        b"",
+        b"mftandem: the following required arguments were not provided: <TABLE>; mftandem --help says more\n",
+    ),
+    (
+        &["seven", "--line", "10000"],
+        b"",
+        2,
+        b"",
+        b"mftandem: invalid value '10000' for '--line <N>': 10000 is not in 0..=9999; mftandem --help says more\n",
+    ),
+    (
+        &["seven", "--timeout=-1"],
+        b"",
+        2,
+        b"",
+        b"mftandem: invalid value '-1' for '--timeout <MS>': a whole number is wanted, from 0; mftandem --help says \
+more\n",
+    ),
+    (
+        &["seven", "keys", "more"],
+        b"",
+        2,
+        b"",
+        b"mftandem: unexpected argument 'more' found; mftandem --help says more\n",
+    ),
 ];
 
 #[test]

@@ -5,8 +5,8 @@ use std::alloc::Global;
 use std::io::ErrorKind;
 use std::process::Abort;
 use std::test::Fail;
-use test_kit::{Gives, Halting, check_status, check_writes, words_of};
-use xb_tandem::{MOST_LINE_BYTES, attend};
+use test_kit::{Gives, Halting, called, check_status, check_writes, words_of};
+use xb_tandem::{MOST_LINE_BYTES, PROGRAM, attend};
 
 const KEYS: &[u8] =
     b"{\"at_ms\":0,\"key\":\"KP\",\"length_ms\":68}\n{\"at_ms\":136,\"key\":\"9\",\"length_ms\":68}\n\
@@ -22,7 +22,8 @@ fn check_read(rt: &impl Abort, alloc: Global, words: &[String], place: usize) {
     let mut reader = Halting::failing(KEYS, 4, place, ErrorKind::Interrupted);
     let mut out = Vec::new(alloc);
     let mut err = Vec::new(alloc);
-    let got = attend(alloc, words, &FOLDER, &mut reader, &mut out, &mut err);
+    let call = called(&PROGRAM, words);
+    let got = attend(alloc, &call, &FOLDER, &mut reader, &mut out, &mut err);
     assert_eq!(rt; got, 1, "{place}");
     let wanted = if place < CERTAIN {
         b"".as_slice()

@@ -20,6 +20,10 @@ const WRONG_SEND: &[u8] = b"[[route]]\ncode = \"0\"\ntrunk = 1\n\
 const OTHER_SEND: &[u8] = b"[[route]]\ncode = \"0\"\ntrunk = 30\n\
 [[route]]\ncode = \"234\"\ntrunk = 30\nsend = \"dp\"\n";
 
+// KP 0 ST.
+const ZERO: &[u8] = b"{\"at_ms\":0,\"key\":\"KP\",\"length_ms\":68}\n\
+{\"at_ms\":136,\"key\":\"0\",\"length_ms\":68}\n{\"at_ms\":272,\"key\":\"ST\",\"length_ms\":68}\n";
+
 // The files that there are.
 pub(crate) const FOLDER: Folder = Folder(&[
     ("seven", SEVEN),
@@ -30,4 +34,7 @@ pub(crate) const FOLDER: Folder = Folder(&[
     ("wrong send", WRONG_SEND),
     ("other send", OTHER_SEND),
     ("no trunk", b"[[route]]\ncode = \"234\"\n"),
+    ("/dev/stdin", SEVEN),
+    ("a sound", b"RIFF\x24\0\0\0WAVEfmt "),
+    ("zero.keys", ZERO),
 ]);

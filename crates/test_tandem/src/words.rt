@@ -1,6 +1,7 @@
 // The words of each fault that is not among the statuses, as the table of faults has them.
 use std::io::{self, ErrorKind};
 use std::test::Fail;
+use xb_command::OpenFault;
 use xb_tandem::{LineFault, TandemFault};
 
 #[test]
@@ -21,8 +22,8 @@ fn words_of_faults(rt: HostRuntime) -> Result<(), Fail> {
         assert_eq!(rt; written.as_str(), words);
     }
     let error = io::Error::from(ErrorKind::NotFound);
-    let file = TandemFault::File(error);
+    let file = TandemFault::File(OpenFault::System("b.toml", error));
     let written = format!(in rt.alloc(); "{file}")?;
-    assert!(rt; written.starts_with("the route table could not be read: "));
+    assert!(rt; written.starts_with("the route table could not be read: b.toml: "));
     Ok(())
 }

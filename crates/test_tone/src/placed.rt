@@ -1,9 +1,9 @@
 // Entries that lie in time, by places that were reckoned by hand.
+use crate::calling::sounded;
 use std::alloc::Global;
 use std::io::ErrorKind;
 use std::test::Fail;
 use test_kit::{Short, words_of};
-use xb_tone::attend;
 
 // Line 7 keys a 5 on trunk group 17 at 1,000 ms, and again at 1,150 ms; in between line 8 is refused.
 const ENTRIES: &[u8] =
@@ -19,14 +19,14 @@ const PLACES: &[(&[&str], usize, &[(usize, usize)], &[u8])] = &[
     // a KP of 100 ms begins after 1,000 ms and a lead of 1,000 ms, with a sample of 0, and its last sample is its 800th;
     // the digit begins 68 ms after it, and ST, after which 68 ms are silent, 136 ms later
     (
-        &["--at", "--entry", "1", "--line", "7", "--lead", "1000"],
+        &["--timed", "--entry", "1", "--line", "7", "--lead", "1000"],
         2_440 * 8,
         &[(16_001, 16_799), (17_345, 17_887), (18_433, 18_975)],
         b"",
     ),
     // the first entry has 100 ms of KP, and 50 ms of the digit; the lead of the second one is 0
     (
-        &["--at", "--lead", "0", "--gap", "0"],
+        &["--timed", "--lead", "0", "--gap", "0"],
         (1_150 + 236) * 8,
         &[(8_001, 9_199), (9_201, 11_087)],
         b"mftone: entry 1 of line 7 is cut at 1150 ms by entry 2 of line 7\n",
@@ -42,11 +42,11 @@ fn is_loud(sound: &[u8], place: usize) -> bool {
 // The raw sound of entries, and what is told.
 fn sound_of(alloc: Global, words: &[&str]) -> Result<(Vec<u8>, Vec<u8>), Fail> {
     let mut line = words_of(alloc, "mftone", words)?;
-    line.push("--raw".to_string(alloc)?)?;
+    line.push("--format=s16".to_string(alloc)?)?;
     let mut reader = ENTRIES;
     let mut out = Vec::new(alloc);
     let mut err = Vec::new(alloc);
-    match attend(alloc, &line, &mut reader, &mut out, &mut err) {
+    match sounded(alloc, &line, &mut reader, &mut out, &mut err) {
         0 => Ok((out, err)),
         _ => Err(Fail::from("no sound")),
     }
@@ -74,11 +74,11 @@ fn sounds_at_its_time(rt: HostRuntime) -> Result<(), Fail> {
 
 #[test]
 fn sounds_nothing_that_is_untold(rt: HostRuntime) -> Result<(), Fail> {
-    let words = words_of(rt.alloc(), "mftone", &["--at", "--lead=0"])?;
+    let words = words_of(rt.alloc(), "mftone", &["--timed", "--lead=0"])?;
     let mut reader = ENTRIES;
     let mut out = Vec::new(rt.alloc());
     let mut err = Short::new(rt.alloc(), 9, Some(ErrorKind::Other));
-    let status = attend(rt.alloc(), &words, &mut reader, &mut out, &mut err);
+    let status = sounded(rt.alloc(), &words, &mut reader, &mut out, &mut err);
     assert_eq!(rt; status, 1);
     assert!(rt; out.is_empty());
     Ok(())

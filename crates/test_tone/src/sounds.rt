@@ -1,7 +1,7 @@
 // Sounds, byte for byte as another program computed them from sines of its own.
+use crate::calling::sounded;
 use std::test::Fail;
 use test_kit::words_of;
-use xb_tone::attend;
 
 pub const PAGE: &[u8] = b"0007 1 REFUSED UNKNOWN 3\n\
 0007 2 KEYED 0017 KP:1100+1700 0:1300+1500 ST:1500+1700\n\
@@ -18,10 +18,16 @@ const SOUNDS: &[(&[&str], &[u8], usize, u64)] = &[
     (&[], PAGE, 27_948, 1_029_790_321),
     (&["--line", "7"], PAGE, 15_084, 3_826_889_742),
     (&["--line", "7", "--entry=2"], PAGE, 15_084, 3_826_889_742),
-    (&["--line", "42", "--raw"], PAGE, 12_864, 3_948_783_471),
+    (
+        &["--line", "42", "--format=s16"],
+        PAGE,
+        12_864,
+        3_948_783_471,
+    ),
     (
         &[
-            "--line", "42", "--lead", "0", "--kp", "58", "--key", "46", "--gap", "38", "--raw",
+            "--line", "42", "--lead", "0", "--kp", "58", "--key", "46", "--gap", "38", "--format",
+            "s16",
         ],
         PAGE,
         2_880,
@@ -42,7 +48,12 @@ const SOUNDS: &[(&[&str], &[u8], usize, u64)] = &[
         32_844,
         245_728_582,
     ),
-    (&["--raw", "--keys=  KP 7 ST"], PAGE, 15_040, 1_517_650_664),
+    (
+        &["--format=s16", "--keys=  KP 7 ST"],
+        PAGE,
+        15_040,
+        1_517_650_664,
+    ),
     (
         &["--keys", "KP 555 1212 ST", "--level=-20.5", "--twist=3"],
         PAGE,
@@ -85,7 +96,7 @@ const SOUNDS: &[(&[&str], &[u8], usize, u64)] = &[
         3_928_940_346,
     ),
     (
-        &["--keys=KP 555 1212 ST", "--with=2600:-13", "--hum=-20"],
+        &["--keys=KP 555 1212 ST", "--tone=2600:-13", "--hum=-20"],
         PAGE,
         28_140,
         3_750_528_828,
@@ -93,7 +104,7 @@ const SOUNDS: &[(&[&str], &[u8], usize, u64)] = &[
     (
         &[
             "--keys=KP 555 1212 ST",
-            "--with=300:-7.2",
+            "--tone=300:-7.2",
             "--hum=-7.2",
             "--clip",
             "--seed=3",
@@ -131,20 +142,20 @@ const SOUNDS: &[(&[&str], &[u8], usize, u64)] = &[
     ),
     // by mu-law: a WAV file and bytes alone, and noise over the whole range
     (
-        &["--keys", "KP 555 1212 ST", "--ulaw"],
+        &["--keys", "KP 555 1212 ST", "--format=wav-ulaw"],
         PAGE,
         14_106,
         1_965_419_141,
     ),
     (
-        &["--raw", "--ulaw", "--keys=KP 7 ST"],
+        &["--format=ulaw", "--keys=KP 7 ST"],
         PAGE,
         7_520,
         4_091_105_703,
     ),
     (
         &[
-            "--ulaw",
+            "--format=wav-ulaw",
             "--keys=KP 7",
             "--level=0",
             "--twist=-39.9",
@@ -175,7 +186,7 @@ fn sounds_as_computed(rt: HostRuntime) -> Result<(), Fail> {
         let mut reader = *page;
         let mut out = Vec::new(rt.alloc());
         let mut err = Vec::new(rt.alloc());
-        let got = attend(rt.alloc(), &line, &mut reader, &mut out, &mut err);
+        let got = sounded(rt.alloc(), &line, &mut reader, &mut out, &mut err);
         assert_eq!(rt; got, 0, "{words:?}");
         assert!(rt; err.is_empty(), "{words:?}");
         assert_eq!(rt; out.len(), *length, "{words:?}");

@@ -1,9 +1,9 @@
 // Words, pages and streams in; a status and lines of faults out.
+use crate::calling::sounded;
 use crate::sounds::PAGE;
 use std::alloc::Global;
 use std::test::Fail;
 use test_kit::{Gives, Halting, Program, Short, check_reads, check_status, check_writes};
-use xb_tone::attend;
 
 // The program `mftone`.
 #[derive(Clone, Copy)]
@@ -22,13 +22,9 @@ impl Program for Mftone {
         out: &mut Short,
         err: &mut Vec<u8>,
     ) -> u8 {
-        attend(alloc, words, reader, out, err)
+        sounded(alloc, words, reader, out, err)
     }
 }
-
-const USAGE: &[u8] = b"mftone: usage: mftone [--line N] [--entry N] [--lead N] [--kp N] [--key N] \
-[--gap N] [--raw] [--at] [--keys WORDS] [--level DBM0] [--twist DB] [--detune PERCENT] [--skew MS] \
-[--hole MS@MS] [--phase] [--with HZ:DBM0] [--hum DBM0] [--noise-peak N] [--seed N] [--clip] [--ulaw]\n";
 
 // The words after the program's name, the page, the status, and what stands on standard error; nothing is
 // written.
@@ -106,6 +102,31 @@ const CASES: &[(&[&str], &[u8], u8, &[u8])] = &[
         1,
         b"mftone: cadence: the silence after a tone is too long\n",
     ),
+    // a file in place of the input, which is left alone
+    (
+        &["day.page", "--line", "8"],
+        b"x",
+        1,
+        b"mftone: the page has no such entry\n",
+    ),
+    (
+        &["-", "--line", "8"],
+        PAGE,
+        1,
+        b"mftone: the page has no such entry\n",
+    ),
+    (
+        &["none.page"],
+        PAGE,
+        1,
+        b"mftone: none.page: entity not found\n",
+    ),
+    (
+        &["call.wav"],
+        PAGE,
+        1,
+        b"mftone: call.wav: it is a sound, which mfrx and mfloop take\n",
+    ),
     // no page is read for words of keys
     (
         &["--keys", "  "],
@@ -150,130 +171,130 @@ const CASES: &[(&[&str], &[u8], u8, &[u8])] = &[
 const ENTRIES: &[(&[&str], &[u8], &[u8])] = &[
     // the text was cut: before its first line, after a line, and in the LF of one
     (
-        &["--at"],
+        &["--timed"],
         b"",
         b"mftone: text line 1 is missing: the totals of mflive --json end the entries\n",
     ),
     (
-        &["--at"],
+        &["--timed"],
         b"{\"at_ms\":1,\"entry\":1,\"line\":7,\"outcome\":\"KEYED\",\"sent\":\"5\",\"trunk\":1}\n",
         b"mftone: text line 2 is missing: the totals of mflive --json end the entries\n",
     ),
     (
-        &["--at", "--line", "7"],
+        &["--timed", "--line", "7"],
         b"{\"event\":\"SEIZED\"}\n{\"at_ms\":1,\"entry\":1,\"line\":7,\"outcome\":\"KEYED\",\"sent\":\"5\",\"trunk\":1}",
         b"mftone: text line 3 is missing: the totals of mflive --json end the entries\n",
     ),
     // text after the totals: an empty line, and another run
     (
-        &["--at"],
+        &["--timed"],
         b"{\"keyed\":0,\"refused\":0}\n\n",
         b"mftone: text line 1 has the totals, and text stands after them\n",
     ),
     (
-        &["--at"],
+        &["--timed"],
         b"{\"event\":\"SEIZED\"}\n{\"keyed\":0,\"refused\":0}\n{\"keyed\":0,\"refused\":0}\n",
         b"mftone: text line 2 has the totals, and text stands after them\n",
     ),
     // one more keyed, one more refused, one fewer, and the two the other way round; --line does not matter
     (
-        &["--at"],
+        &["--timed"],
         b"{\"at_ms\":1,\"entry\":1,\"line\":7,\"outcome\":\"KEYED\",\"sent\":\"5\",\"trunk\":1}\n\
 {\"keyed\":2,\"refused\":0}\n",
         b"mftone: text line 2 has totals that are not those of the entries\n",
     ),
     (
-        &["--at", "--line", "7"],
+        &["--timed", "--line", "7"],
         b"{\"at_ms\":1,\"entry\":1,\"line\":7,\"outcome\":\"KEYED\",\"sent\":\"5\",\"trunk\":1}\n\
 {\"keyed\":1,\"refused\":1}\n",
         b"mftone: text line 2 has totals that are not those of the entries\n",
     ),
     (
-        &["--at", "--line", "7"],
+        &["--timed", "--line", "7"],
         b"{\"at_ms\":1,\"entry\":1,\"line\":7,\"outcome\":\"KEYED\",\"sent\":\"5\",\"trunk\":1}\n\
 {\"at_ms\":9,\"entry\":1,\"line\":8,\"outcome\":\"KEYED\",\"sent\":\"5\",\"trunk\":1}\n\
 {\"keyed\":1,\"refused\":0}\n",
         b"mftone: text line 3 has totals that are not those of the entries\n",
     ),
     (
-        &["--at"],
+        &["--timed"],
         b"{\"at_ms\":1,\"entry\":1,\"heard\":3,\"line\":7,\"outcome\":\"REFUSED\",\"reason\":\"UNKNOWN\"}\n\
 {\"keyed\":1,\"refused\":0}\n",
         b"mftone: text line 2 has totals that are not those of the entries\n",
     ),
     (
-        &["--at"],
+        &["--timed"],
         b"{\"keyed\":0,\"refused\":0}",
         b"mftone: there is no such entry\n",
     ),
     // an empty text line, and a byte order mark
     (
-        &["--at"],
+        &["--timed"],
         b"\n{\"keyed\":0,\"refused\":0}\n",
         b"mftone: text line 1 is no JSON object\n",
     ),
     (
-        &["--at"],
+        &["--timed"],
         b"\xef\xbb\xbf{\"keyed\":0,\"refused\":0}\n",
         b"mftone: text line 1 is no JSON object\n",
     ),
     (
-        &["--at"],
+        &["--timed"],
         b"{\"event\":\"SEIZED\"}\r\n[1]\n",
         b"mftone: text line 2 is no JSON object\n",
     ),
     (
-        &["--at"],
+        &["--timed"],
         b"{\"keyed\":1}\n",
         b"mftone: text line 1 has no entry, event or totals of mflive --json\n",
     ),
     (
-        &["--at"],
+        &["--timed"],
         b"{\"keyed\":0,\"refused\":\"0\"}\n",
         b"mftone: text line 1 has no entry, event or totals of mflive --json\n",
     ),
     // the object of a mark
     (
-        &["--at"],
+        &["--timed"],
         b"{\"at_ms\":1,\"entry\":1,\"line\":7,\"trunk\":17}",
         b"mftone: text line 1 has no entry, event or totals of mflive --json\n",
     ),
     // what mftandem writes has no time
     (
-        &["--at"],
+        &["--timed"],
         b"{\"entry\":1,\"line\":7,\"outcome\":\"KEYED\",\"sent\":\"5\",\"trunk\":1}",
         b"mftone: text line 1 has an entry without its line, entry and at_ms\n",
     ),
     (
-        &["--at"],
+        &["--timed"],
         b"{\"at_ms\":1,\"entry\":1,\"line\":7,\"outcome\":\"KEYED\",\"sent\":\"5x\",\"trunk\":1}",
         b"mftone: text line 1 has a keyed entry without its trunk and sent\n",
     ),
     (
-        &["--at"],
+        &["--timed"],
         b"{\"at_ms\":1,\"entry\":1,\"line\":7,\"outcome\":\"KEYED\",\"sent\":\"5\",\"trunk\":10000}",
         b"mftone: text line 1 has a keyed entry without its trunk and sent\n",
     ),
     (
-        &["--at"],
+        &["--timed"],
         b"{\"at_ms\":1,\"entry\":1,\"heard\":3,\"line\":7,\"outcome\":\"REFUSED\",\"reason\":\"LATE\"}",
         b"mftone: text line 1 has a refused entry without its reason and heard\n",
     ),
     (
-        &["--at", "--line", "42"],
+        &["--timed", "--line", "42"],
         b"{\"at_ms\":1,\"entry\":1,\"heard\":3,\"line\":7,\"outcome\":\"REFUSED\",\"reason\":\"UNKNOWN\"}\n\
 {\"keyed\":0,\"refused\":1}\n",
         b"mftone: there is no such entry\n",
     ),
     (
-        &["--at"],
+        &["--timed"],
         b"{\"at_ms\":1,\"entry\":1,\"heard\":3,\"line\":7,\"outcome\":\"REFUSED\",\"reason\":\"UNKNOWN\"}\n\
 {\"keyed\":0,\"refused\":1}\n",
         b"mftone: none of the calls asked for is keyed\n",
     ),
     // two lines, each with a clock of its own
     (
-        &["--at"],
+        &["--timed"],
         b"{\"at_ms\":2,\"entry\":1,\"line\":7,\"outcome\":\"KEYED\",\"sent\":\"5\",\"trunk\":1}\n\
 {\"at_ms\":1,\"entry\":1,\"line\":8,\"outcome\":\"KEYED\",\"sent\":\"5\",\"trunk\":1}\n\
 {\"keyed\":2,\"refused\":0}\n",
@@ -282,50 +303,141 @@ const ENTRIES: &[(&[&str], &[u8], &[u8])] = &[
     // 268,435,454 ms of sound have more bytes than a file
     (
         &[
-            "--at", "--lead", "0", "--kp", "1", "--key", "1", "--gap", "0",
+            "--timed", "--lead", "0", "--kp", "1", "--key", "1", "--gap", "0",
         ],
         b"{\"at_ms\":268435451,\"entry\":1,\"line\":7,\"outcome\":\"KEYED\",\"sent\":\"5\",\"trunk\":1}\n\
 {\"keyed\":1,\"refused\":0}\n",
         b"mftone: the sound is too long for a WAV file\n",
     ),
     (
-        &["--at"],
+        &["--timed"],
         b"{\"at_ms\":18446744073709551615,\"entry\":1,\"line\":7,\"outcome\":\"KEYED\",\"sent\":\"5\",\"trunk\":1}\n\
 {\"keyed\":1,\"refused\":0}\n",
         b"mftone: the sound is too long for a WAV file\n",
     ),
 ];
 
-// Words after the program's name that are refused: the usage is told, and the page is not read.
-const REFUSED: &[&[&str]] = &[
+// Words after the program's name that are refused, and why; the page is not read.
+const REFUSED: &[(&[&str], &[u8])] = &[
     // a level of each tone is from -40.0 to 0, and a page has none
-    &["--keys", "KP", "--level=0.1"],
-    &["--keys", "KP", "--level=-3", "--twist=3.1"],
-    &["--keys", "KP", "--level=-40.1"],
-    &["--keys", "KP", "--twist=+1"],
-    &["--keys", "KP", "--noise-peak=32768"],
-    &["--keys", "KP", "--detune=50.1"],
-    &["--keys", "KP", "--skew=0.5"],
-    &["--keys", "KP", "--hole=10"],
-    &["--keys", "KP", "--hole=10@10001"],
-    &["--keys", "KP", "--with=0:-20"],
-    &["--keys", "KP", "--with=300"],
-    &["--keys", "KP", "--hum=1"],
-    &["--clip"],
-    &["--ulaw"],
-    &["--line", "7", "--raw", "--ulaw"],
-    &["--keys", "KP", "--ulaw=1"],
-    &["--keys", "KP", "--line", "7"],
-    // words of keys have no times, and entries no level
-    &["--at", "--keys", "KP"],
-    &["--at", "--level=-7"],
-    &["--at", "--entry", "1"],
-    &["--at", "7"],
-    &["--entry", "1"],
-    &["--line", "x"],
-    &["--speed", "10"],
-    &["--help"],
-    &["page.txt"],
+    (
+        &["--keys", "KP", "--level=0.1"],
+        b"mftone: invalid value '0.1' for '--level': a level is from -40.0 to 0, in dBm0 and tenths of it, as --level=-20.5; mftone --help says more\n",
+    ),
+    (
+        &["--keys", "KP", "--level=-3", "--twist=3.1"],
+        b"mftone: invalid value '3.1' for '--twist': the high tone too has a level from -40.0 to 0, in dBm0; mftone --help says more\n",
+    ),
+    (
+        &["--keys", "KP", "--level=-40.1"],
+        b"mftone: invalid value '-40.1' for '--level': a level is from -40.0 to 0, in dBm0 and tenths of it, as --level=-20.5; mftone --help says more\n",
+    ),
+    (
+        &["--keys", "KP", "--level=-7.25"],
+        b"mftone: invalid value '-7.25' for '--level': a level is from -40.0 to 0, in dBm0 and tenths of it, as --level=-20.5; mftone --help says more\n",
+    ),
+    (
+        &["--keys", "KP", "--level", "-20.5"],
+        b"mftone: there is no option '-2'; a value that begins with - needs =, as in --level=-20.5; mftone --help says more\n",
+    ),
+    (
+        &["--keys", "KP", "--twist=+1"],
+        b"mftone: invalid value '+1' for '--twist': a twist is in dB, with tenths at most, as 3.5 or --twist=-3.5; mftone --help says more\n",
+    ),
+    (
+        &["--keys", "KP", "--noise-peak=32768"],
+        b"mftone: invalid value '32768' for '--noise-peak <N>': 32768 is not in 0..=32767; mftone --help says more\n",
+    ),
+    (
+        &["--keys", "KP", "--detune=50.1"],
+        b"mftone: invalid value '50.1' for '--detune': a detuning is from -50.0 to 50.0, in percent and tenths of it; mftone --help says more\n",
+    ),
+    (
+        &["--keys", "KP", "--skew=0.5"],
+        b"mftone: invalid value '0.5' for '--skew': a skew is a whole number of ms from -10000 to 10000; mftone --help says more\n",
+    ),
+    (
+        &["--keys", "KP", "--hole=10"],
+        b"mftone: invalid value '10' for '--hole': a hole is MS@MS, each a whole number from 0 to 10000, as 10@20; mftone --help says more\n",
+    ),
+    (
+        &["--keys", "KP", "--hole=10@10001"],
+        b"mftone: invalid value '10@10001' for '--hole': a hole is MS@MS, each a whole number from 0 to 10000, as 10@20; mftone --help says more\n",
+    ),
+    (
+        &["--keys", "KP", "--tone=0:-20"],
+        b"mftone: invalid value '0:-20' for '--tone': a tone is HZ:DBM0, a whole number from 1 to 3999 and a level from -40.0 to 0, as 2600:-13.5; mftone --help says more\n",
+    ),
+    (
+        &["--keys", "KP", "--tone=300"],
+        b"mftone: invalid value '300' for '--tone': a tone is HZ:DBM0, a whole number from 1 to 3999 and a level from -40.0 to 0, as 2600:-13.5; mftone --help says more\n",
+    ),
+    (
+        &["--keys", "KP", "--hum=1"],
+        b"mftone: invalid value '1' for '--hum': hum has a level from -40.0 to 0, in dBm0 and tenths of it, as --hum=-20; mftone --help says more\n",
+    ),
+    // of several the first is told
+    (
+        &["--keys", "KP", "--tone", "4000:-13", "--detune=50.1"],
+        b"mftone: invalid value '4000:-13' for '--tone': a tone is HZ:DBM0, a whole number from 1 to 3999 and a level from -40.0 to 0, as 2600:-13.5; mftone --help says more\n",
+    ),
+    (
+        &["--keys", "KP", "--detune=50.1", "--tone", "4000:-13"],
+        b"mftone: invalid value '50.1' for '--detune': a detuning is from -50.0 to 50.0, in percent and tenths of it; mftone --help says more\n",
+    ),
+    (
+        &["--clip"],
+        b"mftone: --clip wants --keys; mftone --help says more\n",
+    ),
+    (
+        &["--format", "wav-ulaw"],
+        b"mftone: invalid value 'wav-ulaw' for '--format': mu-law wants --keys; mftone --help says more\n",
+    ),
+    (
+        &["--line", "7", "--format=ulaw"],
+        b"mftone: invalid value 'ulaw' for '--format': mu-law wants --keys; mftone --help says more\n",
+    ),
+    (
+        &["--keys", "KP", "--format=s8"],
+        b"mftone: invalid value 's8' for '--format <FORM>' [possible values: wav, s16, ulaw, wav-ulaw]; mftone --help says more\n",
+    ),
+    (
+        &["--keys", "KP", "--line", "7"],
+        b"mftone: --keys and --line do not go together; mftone --help says more\n",
+    ),
+    // words of keys have no times and no page, and entries no level
+    (
+        &["--timed", "--keys", "KP"],
+        b"mftone: --timed and --keys do not go together; mftone --help says more\n",
+    ),
+    (
+        &["--timed", "--level=-7"],
+        b"mftone: --level wants --keys; mftone --help says more\n",
+    ),
+    (
+        &["--timed", "--entry", "1"],
+        b"mftone: --entry wants --line; mftone --help says more\n",
+    ),
+    (
+        &["day.page", "--keys", "KP"],
+        b"mftone: invalid value 'day.page' for 'PAGE': no page is read where --keys is given; mftone --help says more\n",
+    ),
+    (
+        &["--entry", "1"],
+        b"mftone: --entry wants --line; mftone --help says more\n",
+    ),
+    (
+        &["--line", "x"],
+        b"mftone: invalid value 'x' for '--line <N>': a whole number is wanted, from 0; mftone --help says more\n",
+    ),
+    (
+        &["--speed", "10"],
+        b"mftone: there is no option '--speed'; mftone --help says more\n",
+    ),
+    (
+        &["day.page", "7"],
+        b"mftone: there is one word too many, '7'; mftone --help says more\n",
+    ),
 ];
 
 #[test]
@@ -343,11 +455,11 @@ fn gives_each_fault(rt: HostRuntime) -> Result<(), Fail> {
 
 #[test]
 fn refuses_words(rt: HostRuntime) -> Result<(), Fail> {
-    for words in REFUSED {
+    for (words, line) in REFUSED {
         let wanted = Gives {
             status: 2,
             written: b"",
-            line: USAGE,
+            line,
         };
         check_status(rt.alloc(), &Mftone, words, PAGE, wanted)?;
     }

@@ -188,3 +188,15 @@ pub(crate) fn limits_said(text: Option<&str>) -> Option<Limits>
     };
     limits_after(text.as_bytes())?.limits()
 }
+
+/// Why a word says no limits.
+pub(crate) fn reason_against(text: &str) -> &'static str {
+    match limits_after(text.as_bytes()) {
+        Some(_) => {
+            "pulse_min is at most pulse_max, and that under release; make_min is at most pause, and that under timeout"
+        }
+        None => {
+            "each is NAME=MS, a whole number of 1 to 1000000, and none stands twice: pulse_min, pulse_max, make_min, pause, release, timeout"
+        }
+    }
+}

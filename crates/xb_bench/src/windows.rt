@@ -67,6 +67,14 @@ fn window_said(text: &[u8]) -> Option<Window>
     }
 }
 
+/// Whether a text is no window.
+pub(crate) fn is_no_window(text: Option<&str>) -> bool {
+    match text {
+        Some(text) => window_said(text.as_bytes()).is_none(),
+        None => false,
+    }
+}
+
 // With this window of the speed, to which dials are adjusted as well, where one is said.
 fn with_speed(windows: Windows, text: Option<&str>) -> Option<Windows>
     ensures { result ≡ with_speed windows (option_map (λ text. text.now) text.entry) }

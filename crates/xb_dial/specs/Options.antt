@@ -35,10 +35,10 @@ pub record SayOptions (rows : List Row) (options : Options) : Type 0 where
   pub bounce : ReadsNumber (given_by rows (codes "bounce")) options.bounce
   pub seed : ReadsNumber (given_by rows (codes "seed")) options.seed
   pub plan : ReadsNumber (given_by rows (codes "plan")) options.plan
-  pub beyond : ReadsFlag (given_by rows (codes "beyond")) options.beyond
+  pub beyond : ReadsFlag (given_by rows (codes "out-of-limits")) options.beyond
   pub vcd : ReadsFlag (given_by rows (codes "vcd")) options.vcd
   pub in_turn : ReadsFlag (given_by rows (codes "in-turn")) options.in_turn
-  pub any : ReadsFlag (given_by rows (codes "any")) options.any
+  pub any : ReadsFlag (given_by rows (codes "incomplete")) options.any
 
 abbrev pub standard_speed : ℕ → Option Speed
 standard_speed pulses =

@@ -111,7 +111,7 @@ away.",
             ..FLAG
         },
         Word {
-            name: "beyond",
+            name: "out-of-limits",
             help: "times beyond the limits of an office too",
             ..FLAG
         },
@@ -151,7 +151,7 @@ away.",
             ..FLAG
         },
         Word {
-            name: "any",
+            name: "incomplete",
             help: "any digits, complete or not",
             ..FLAG
         },
@@ -199,10 +199,10 @@ fn options_of<'a>(words: &Words<'a>) -> Options<'a>
         bounce: words.number("bounce"),
         seed: words.number("seed"),
         plan: words.number("plan"),
-        beyond: words.flag("beyond"),
+        beyond: words.flag("out-of-limits"),
         vcd: words.flag("vcd"),
         in_turn: words.flag("in-turn"),
-        any: words.flag("any"),
+        any: words.flag("incomplete"),
     }
 }
 

@@ -4,9 +4,9 @@ pub mod TapeLaws
 pub mod Contacts
 pub mod Watching
 pub mod BounceLines
-pub mod Rules
 pub mod Options
 pub mod Tables
+pub mod WireLines
 pub mod Program
 pub mod WireRecords
 pub mod RecordingLaws

@@ -9,10 +9,10 @@
 //!   `laws::each_line_has_the_record_of_its_wire` joins them with the rows (`WireRecords`).
 //! - `Contact`: what follows the contact of a line (`Follow` of `xb_feed`, which reads the recording): exactly the
 //!   rows of what the recording says of its wire, and of its bounces (`by_rows`).
-//! - `attend` (`AttendsLoop`): the words, the table and the recording in. On status 0, exactly the rows that
-//!   they ask for, and all that is told of the bounces. On status 1, the fault of what they ask for
-//!   (`HasFault`). Words are refused only where `clap` refuses them, or they ask for what there is not
-//!   (`AreRefused`).
+//! - `attend` (`by_loop`): the words as they were typed, the table and the recording in. On status 0, exactly the rows that
+//!   they ask for, and all that is told of the bounces; or, where they ask for these, exactly the wires of the recording
+//!   (`WritesWires`). On status 1, the fault of what they ask for (`HadFault`, `FailsToList`). Words are wrong only where
+//!   `clap` refuses them, or they say what there is not.
 #![tactic(auto)]
 
 mod bounce_lines;
@@ -20,6 +20,7 @@ mod common;
 mod contact;
 mod fault;
 pub mod laws;
+mod listed;
 mod program;
 mod rows;
 mod table;
@@ -31,3 +32,4 @@ pub use contact::Contact;
 pub use fault::LoopFault;
 pub use program::attend;
 pub use rows::contact_of;
+pub use words::{Asked, PROGRAM};

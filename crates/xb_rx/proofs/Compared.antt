@@ -92,7 +92,7 @@ module _ (file : Option (List ℕ)) (how : Input) (bytes : Option (List ℕ)) wh
   -- a fault of the file, of which nothing was written
   pub file-fault : (f : CompareProgramFault) (a b : Option (List ℕ)) → IsFileFault file f
       → Compares file how bytes (Err f) (outputs a a b b)
-  file-fault (compare_fault.File e) a b is = (Keeps-refl a, inl (Keeps-refl b, is))
+  file-fault (compare_fault.File name e) a b is = (Keeps-refl a, inl (Keeps-refl b, is))
   file-fault (compare_fault.Keyed f) a b is = (Keeps-refl a, inl (Keeps-refl b, is))
   file-fault (compare_fault.Sound f) a b is = absurd is
   file-fault compare_fault.NoMemory a b is = (Keeps-refl a, inl (Keeps-refl b, is))
@@ -102,7 +102,7 @@ module _ (file : Option (List ℕ)) (how : Input) (bytes : Option (List ℕ)) wh
   -- one of the sound, of which only keys were told
   pub sound-fault : (f : CompareProgramFault) (a b d : Option (List ℕ)) → IsSoundFault how bytes f b d
       → Compares file how bytes (Err f) (outputs a a b d)
-  sound-fault (compare_fault.File e) a b d is = absurd is
+  sound-fault (compare_fault.File name e) a b d is = absurd is
   sound-fault (compare_fault.Keyed f) a b d is = absurd is
   sound-fault (compare_fault.Sound f) a b d is = (Keeps-refl a, inr is)
   sound-fault compare_fault.NoMemory a b d is = (Keeps-refl a, inr is)

@@ -13,5 +13,4 @@ pub mod PagedKeys
 pub mod HeardPages
 pub mod Delivered
 pub mod Compared
-pub mod Answered
-pub mod AskedPages
+pub mod Formed

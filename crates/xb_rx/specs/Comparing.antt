@@ -37,7 +37,7 @@ IsHeard how (Some bytes) heard old new =
 
 -- why a file gives no keyed entries
 abbrev pub IsFileFault : Option (List ℕ) → CompareProgramFault → Type 0
-IsFileFault file (fault.File e) = Unit {0}
+IsFileFault file (fault.File name e) = Unit {0}
 IsFileFault file (fault.Keyed f) = IfSome file (λ page. IsFaultOf (lf_ended page) f)
 IsFileFault file fault.NoMemory = Unit {0}
 IsFileFault file f = ⊥

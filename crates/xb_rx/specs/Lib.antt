@@ -9,7 +9,6 @@ pub mod Listeners
 pub mod Reports
 pub mod Hearing
 pub mod Comparing
-pub mod Rules
 pub mod Options
 pub mod Program
 pub mod PagedKeys

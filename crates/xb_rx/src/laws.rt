@@ -2,13 +2,6 @@
 ghost use Rattle.xb_rx.specs.Comparing.{EntriesAreAtTheirKp, HeardIsPaged};
 ghost use Rattle.xb_rx.specs.Objects.{ObjectsHaveEntries};
 ghost use Rattle.xb_rx.specs.PagedKeys.{KeyedIsPaged};
-ghost use Rattle.xb_rx.specs.Program.{UsageNamesEachOption};
-
-/// The line of refused words names each option of the command.
-#[tactic(auto, unfolding(clap::proofs::OnLiterals::clap_on_literals, xb_command::specs::Usages::has_part))]
-pub fn usage_names_each_option()
-    ensures { UsageNamesEachOption }
-{}
 
 /// What is keyed is the page of what is heard, disturbed too: an entry for each keying, in order, and no key that is
 /// in none.

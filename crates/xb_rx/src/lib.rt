@@ -17,7 +17,7 @@
 //!   in order.
 //! - `laws::heard_is_paged`: the keyings that are compared are the keyed entries of the page that is written
 //!   of them. `laws::entries_are_at_their_kp`: the time that is told of each is that of its KP.
-//! - `attend`: `Attends` of this. `laws::usage_names_each_option`.
+//! - `attend`: `AttendsBy` of this, beginning at the words as they are typed.
 //!
 //! `xb_wav` says which samples a file or a stream has, `xb_ear` what is heard of them, and `xb_measured` how each
 //! key is measured.
@@ -44,3 +44,4 @@ pub use fault::RxFault;
 pub use program::attend;
 pub use receiving::receive;
 pub use request::{Asked, Input, Request, Written};
+pub use words::PROGRAM;

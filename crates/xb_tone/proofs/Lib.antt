@@ -1,4 +1,3 @@
-pub mod AskedKeys
 pub mod NoisyKeys
 pub mod MuLawKeys
 pub mod Unset

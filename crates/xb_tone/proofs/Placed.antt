@@ -9,8 +9,7 @@ use Rattle.xb_placed.specs.Times.{AreInOrder}
 use Rattle.xb_text.specs.Writing.{AppendsBeginning}
 use Rattle.xb_tone.specs.declared.fault.ToneFault.{ToneFault}
 use Rattle.xb_tone.specs.declared.request.Request.{Request}
-use Rattle.xb_tone.specs.Placing.{DeliversAt, Places, SoundsAt, TellsCuts}
-use Rattle.xb_tone.specs.Rules.{program}
+use Rattle.xb_tone.specs.Placing.{DeliversAt, Places, SoundsAt, TellsCuts, program}
 
 sounds : (request : Request) (text : List ℕ) (entries : List PlacedEntry) → Places request.choice text entries
     → 0 < length entries → AreInOrder entries

@@ -2,7 +2,6 @@ pub mod Givens
 pub mod Manners
 pub mod Faults
 pub mod Options
-pub mod Rules
 pub mod Placing
 pub mod Sounding
 pub mod Program

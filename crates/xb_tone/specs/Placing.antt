@@ -1,5 +1,5 @@
 -- What is written of entries that lie in time.
-use Rattle.std.specs.Prelude.{◌≡◌, ◌⊎◌, ℕ, ◌^◌, ◌<◌, ◌≤◌, ◌==◌, ◌&&◌, List, [], Bool, true, false, length, Option, Some, Result, Ok, Err, IfSome}
+use Rattle.std.specs.Prelude.{◌≡◌, ◌⊎◌, ℕ, ◌^◌, ◌<◌, ◌≤◌, ◌==◌, ◌&&◌, List, [], Bool, true, false, length, Option, Some, Result, Ok, Err, IfSome, codes}
 use Rattle.std.specs.Io.KnownBytes.{Appends, Keeps}
 use Rattle.std.specs.List.{filter, list_any}
 use Rattle.xb_text.specs.Writing.{AppendsBeginning}
@@ -17,7 +17,6 @@ use Rattle.xb_tone.specs.declared.fault.ToneFault.TheVariants as fault
 use Rattle.xb_tone.specs.declared.request.Choice.{Choice}
 use Rattle.xb_tone.specs.declared.request.Choice.TheVariants as choice
 use Rattle.xb_tone.specs.declared.request.Request.{Request}
-use Rattle.xb_tone.specs.Rules.{program}
 
 -- whether an entry is asked for
 abbrev pub is_asked : Choice → PlacedEntry → Bool
@@ -50,6 +49,10 @@ pub record PlacesEarly (choice : Choice) (text : List ℕ) (n : ℕ) : Type 0 wh
   pub entries : List PlacedEntry
   pub placed : Places choice text entries
   pub early : early_line entries ≡ Some n
+
+-- the program's name
+abbrev pub program : List ℕ
+program = codes "mftone"
 
 -- the sound of what a text tells of what is asked for, which is some, each entry at its time; and the lines that tell
 -- which of them cut the one before it

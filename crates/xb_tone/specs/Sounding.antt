@@ -129,5 +129,5 @@ abbrev pub Plays : Request → Option (List ℕ) → Bool → Result (Unit {0}) 
 Plays request None false result page left old new errors told =
     Delivers request page result old new × Keeps errors told
 Plays request None true result page left old new errors told = DeliversAt request page result old new errors told
-Plays request (Some text) at result page left old new errors told =
+Plays request (Some text) timed result page left old new errors told =
     Keeps page left × DeliversKeys request text result old new × Keeps errors told

@@ -1,13 +1,6 @@
 //! What the definitions give: each law is the contract of a function that does nothing.
 ghost use Rattle.xb_tone.specs.MuLawKeys.{MuLawKeysAreHeard};
 ghost use Rattle.xb_tone.specs.NoisyKeys.{NoOptionsAreStandard, NoisyKeysAreHeard};
-ghost use Rattle.xb_tone.specs.Program.{UsageNamesEachOption};
-
-/// The line of refused words names each option of the command.
-#[tactic(auto, unfolding(clap::proofs::OnLiterals::clap_on_literals, xb_command::specs::Usages::has_part))]
-pub fn usage_names_each_option()
-    ensures { UsageNamesEachOption }
-{}
 
 /// Keys with noise of up to 277 in each sample are heard, whatever the seed is, where their tones are as loud as ever.
 #[tactic(auto, using(crate::proofs::NoisyKeys::noisy_keys_are_heard))]

@@ -7,7 +7,8 @@
 //! - `play_keys`: the same of words of keys (`xb_signal`). `Keys` comes exactly of the first word that is none, or too
 //!   loud, and nothing is read.
 //! - `play_at`: the same of entries that lie in time (`xb_placed`), each at its time; what is cut is told before.
-//! - `attend`: `Attends` of this. `laws::usage_names_each_option`. `laws::mu_law_keys_are_heard`: keys by mu-law are.
+//! - `attend`: `AttendsBy` of this, beginning at the words as they are typed.
+//! - `laws::mu_law_keys_are_heard`: keys by mu-law are.
 //!
 //! Not said: how much memory a run takes.
 #![tactic(auto)]
@@ -18,6 +19,7 @@ mod given;
 mod keying;
 pub mod laws;
 mod manner;
+mod misfit;
 mod placing;
 mod playing;
 mod program;
@@ -31,3 +33,4 @@ pub use placing::play_at;
 pub use playing::play;
 pub use program::attend;
 pub use request::{Asked, Choice, Request};
+pub use words::PROGRAM;
