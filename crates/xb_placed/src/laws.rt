@@ -1,5 +1,7 @@
 //! What the definitions give: each law is the contract of a function that does nothing.
 ghost use Rattle.xb_placed.specs.Laws.{AllAreHeard, EachSounds, KeyingsBegin};
+ghost use Rattle.std.specs.Prelude.{◌≡◌};
+ghost use Rattle.xb_placed.specs.declared.text.TheConstants.{MOST_TEXT_BYTES};
 
 /// KP begins at the time of its entry and the lead, as far as later entries leave it, whatever came before.
 #[tactic(auto, using(crate::proofs::Begun::keyings_begin))]
@@ -17,4 +19,9 @@ pub fn each_sounds()
 #[tactic(auto, using(crate::proofs::HeardEntries::all_are_heard))]
 pub fn all_are_heard()
     ensures { AllAreHeard }
+{}
+
+/// How many bytes the text of entries has at most.
+pub fn constants()
+    ensures most_text_bytes { MOST_TEXT_BYTES ≡ 67108864 }
 {}

@@ -3,8 +3,8 @@ use Rattle.std.proofs.Common.{◌≡◌, ◌≢◌, ◌∙◌, ◌==◌, true, f
 use Rattle.std.specs.Io.KnownBytes.{Appends}
 use Rattle.std.proofs.KnownBytes.{Keeps-refl}
 use Rattle.xb_text.specs.Writing.{AppendsBeginning}
-use Rattle.xb_compared.specs.Differences.{differences}
-use Rattle.xb_compared.specs.Entries.{KeyedEntry}
+use Rattle.xb_rx.specs.Differences.{differences}
+use Rattle.xb_rx.specs.Entries.{KeyedEntry}
 use Rattle.xb_measured.specs.Receivers.{keys_of_sound}
 use Rattle.xb_rx.specs.declared.comparing.CompareProgramFault.{CompareProgramFault}
 use Rattle.xb_rx.specs.declared.comparing.CompareProgramFault.TheVariants as compare_fault

@@ -14,3 +14,5 @@ pub mod HeardPages
 pub mod Delivered
 pub mod Compared
 pub mod Formed
+pub mod Unlike
+pub mod DifferenceSteps

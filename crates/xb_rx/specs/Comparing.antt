@@ -3,14 +3,14 @@ use Rattle.std.specs.Prelude.{◌≡◌, ◌≢◌, ◌⊎◌, ℕ, List, [], �
 use Rattle.std.specs.List.{AllByRecursion}
 use Rattle.std.specs.Io.KnownBytes.{Appends, Keeps}
 use Rattle.xb_text.specs.Writing.{AppendsBeginning}
-use Rattle.xb_compared.specs.Differences.{differences}
-use Rattle.xb_compared.specs.Entries.{KeyedEntry}
-use Rattle.xb_compared.specs.Keyed.{keys_text}
-use Rattle.xb_compared.specs.Pages.{IsFaultOf, IsKeyed}
+use Rattle.xb_rx.specs.Differences.{differences}
+use Rattle.xb_rx.specs.Entries.{KeyedEntry}
+use Rattle.xb_rx.specs.Keyed.{keys_text}
+use Rattle.xb_rx.specs.KeyedPages.{IsFaultOf, IsKeyed}
 use Rattle.xb_measured.specs.Figures.{start_ms}
 use Rattle.xb_model.specs.Keyings.{keying}
-use Rattle.xb_told.specs.declared.keys.TheConstants.{MOST_DIGITS}
-use Rattle.xb_told.specs.Keyings.{digits_to_st, is_kp}
+use Rattle.xb_measured.specs.declared.keys.TheConstants.{MOST_DIGITS}
+use Rattle.xb_measured.specs.Keyings.{digits_to_st, is_kp}
 use Rattle.xb_page.specs.LineEnds.{lf_ended}
 use Rattle.xb_measured.specs.declared.heard.Heard.{Heard}
 use Rattle.xb_measured.specs.Receivers.{keys_of_sound}

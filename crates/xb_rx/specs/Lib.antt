@@ -12,3 +12,7 @@ pub mod Comparing
 pub mod Options
 pub mod Program
 pub mod PagedKeys
+pub mod Entries
+pub mod Keyed
+pub mod Differences
+pub mod KeyedPages

@@ -5,6 +5,8 @@ ghost use Rattle.xb_rx.specs.Comparing.{Compares, HasKeyed, IsDifferences, IsFil
 ghost use Rattle.xb_rx.specs.Hearing.{HasForm, outputs};
 
 use crate::fault::RxFault;
+use crate::keyed::Keyed;
+use crate::keyed_pages::{CompareFault, keyed_of_page};
 use crate::receiving::listen;
 use crate::report::Report;
 use crate::request::Input;
@@ -12,7 +14,6 @@ use std::alloc::{AllocError, Global};
 use std::io::{self, Read, Write};
 use thiserror::Error;
 use xb_command::{Files, InOneLine};
-use xb_compared::{CompareFault, Keyed, keyed_of_page};
 use xb_page::end_lines_at_lf;
 use xb_text::write_whole;
 

@@ -2,6 +2,7 @@
 ghost use Rattle.xb_rx.specs.Comparing.{EntriesAreAtTheirKp, HeardIsPaged};
 ghost use Rattle.xb_rx.specs.Objects.{ObjectsHaveEntries};
 ghost use Rattle.xb_rx.specs.PagedKeys.{KeyedIsPaged};
+ghost use Rattle.xb_rx.specs.Differences.{SameKeysDoNotDiffer};
 
 /// What is keyed is the page of what is heard, disturbed too: an entry for each keying, in order, and no key that is
 /// in none.
@@ -22,4 +23,9 @@ pub fn entries_are_at_their_kp()
 /// Among the objects of keys those of entries are one for each keying, in order.
 pub fn objects_have_entries()
     ensures { ObjectsHaveEntries }
+{}
+
+/// There are no differences just where the keys are the same.
+pub fn same_keys_do_not_differ()
+    ensures { SameKeysDoNotDiffer }
 {}

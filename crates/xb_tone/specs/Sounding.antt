@@ -99,7 +99,10 @@ Delivers request page (Err fault.Refused) old new =
 Delivers request page (Err fault.TooLongSound) old new =
     Keeps old new × IfSome page (λ text. (marks : List Mark) × Names request.choice text marks
     × (2 ^ 32 ≤ wav_length (sound_of request.cadence marks)))
-Delivers request page (Err f) old new = Keeps old new
+Delivers request page (Err (fault.Cadence f)) old new = Keeps old new
+Delivers request page (Err fault.Read) old new = Keeps old new
+Delivers request page (Err fault.NoMemory) old new = Keeps old new
+Delivers request page (Err f) old new = ⊥
 
 -- words of keys say segments, of which these are the bytes
 pub record SaysBytes (request : Request) (text bytes : List ℕ) : Type 0 where
