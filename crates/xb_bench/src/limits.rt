@@ -73,12 +73,12 @@ fn limit_named(name: &[u8]) -> Option<Limit>
     }
 }
 
-// The ms that digits write, up to the greatest limit.
+// The ms that digits write, from 1 to the greatest limit.
 fn ms_said(digits: &[u8]) -> Option<u32>
     ensures { result ≡ ms_said digits.now }
 {
     let ms = number_of(digits)?;
-    if ms > u64::from(GREATEST_LIMIT) {
+    if ms == 0 || ms > u64::from(GREATEST_LIMIT) {
         return None;
     }
     Some(ms as u32)

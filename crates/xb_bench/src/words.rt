@@ -153,15 +153,17 @@ fn can_tell(form: Form, lines: &[AskedLine]) -> bool
 // Which window is none.
 fn no_window<'a>(words: &Words<'a>) -> Misfit<'a> {
     let speed = words.text("speed");
-    let (option, value) = if is_no_window(speed) {
-        ("speed", speed)
-    } else {
-        ("share", words.text("share"))
-    };
+    if is_no_window(speed) {
+        return Misfit {
+            option: "speed",
+            value: speed.unwrap_or(""),
+            reason: "a window is from one number to another that is no less, each with one decimal at most, as 9.5-10.5",
+        };
+    }
     Misfit {
-        option,
-        value: value.unwrap_or(""),
-        reason: "a window is from one number to another that is no less, each with one decimal at most, as 9.5-10.5",
+        option: "share",
+        value: words.text("share").unwrap_or(""),
+        reason: "a share is from one number to another that is no less, 100 at most, each with one decimal at most, as 58-64",
     }
 }
 
@@ -187,16 +189,17 @@ fn first_otherwise<'a>(lines: &[AskedLine], words: &[&'a str]) -> Option<&'a str
 
 // Why the form does not tell the lines.
 fn not_told<'a>(words: &Words<'a>, lines: &[AskedLine]) -> Misfit<'a> {
-    match first_otherwise(lines, words.texts("wire").unwrap_or(&[])) {
+    let wires = words.texts("wire").unwrap_or(&[]);
+    match first_otherwise(lines, wires) {
         Some(value) => Misfit {
             option: "wire",
             value,
             reason: "on the bench may stand inverted and settle=MS, 1 or more, and neither ringing nor seize",
         },
         None => Misfit {
-            option: "svg",
-            value: "",
-            reason: "the plot is one of one line, and there is more than one --wire",
+            option: "wire",
+            value: wires.get(1).copied().unwrap_or(""),
+            reason: "--svg plots one line, and this is a second one",
         },
     }
 }

@@ -12,7 +12,7 @@ use Rattle.xb_model.specs.Plans.{plan_of_digits}
 use Rattle.xb_calls.specs.declared.order.RowOrder.TheVariants.{ByLine, InTurn}
 use Rattle.xb_calls.specs.declared.speed.Speed.{Speed}
 use Rattle.xb_calls.specs.Speeds.{speed_of, ten_pulses_a_second, twenty_pulses_a_second}
-use Rattle.xb_trace.specs.declared.bouncing.Bouncing.{Bouncing}
+use Rattle.xb_dial.specs.declared.bouncing.Bouncing.{Bouncing}
 use Rattle.xb_worn.specs.declared.wear.Wear.{Wear}
 use Rattle.xb_dial.specs.declared.request.Asked.{Asked}
 use Rattle.xb_dial.specs.declared.request.Form.{Form}

@@ -94,6 +94,9 @@ fn cut_name(text: &str) -> (&str, Option<&[u8]>)
     }
 }
 
+const TOO_SHORT_FOR_A_BELL: &str =
+    "a make of a line that rings seizes it from 66 ms on: --seize or seize= is 66 or more";
+
 // The wire of a line, and how the line is listened to; what it does not say is as of all. Or why there is none.
 fn wire_by(all: Own, number: LineNo, text: &str) -> Result<(AskedLine, &str), &'static str>
     ensures wire { IfOk result (λ wire. wire_by all number (pieces 44 text.now) ≡ Some (wire.0, wire.1.now)) }
@@ -106,9 +109,7 @@ fn wire_by(all: Own, number: LineNo, text: &str) -> Result<(AskedLine, &str), &'
     let own = own_of(words)?;
     match own.or(all).manner() {
         Some(manner) => Ok((AskedLine { number, manner }, name)),
-        None => Err(
-            "a make of a line that rings seizes it from 66 ms on: --seize or seize= is 66 or more",
-        ),
+        None => Err(TOO_SHORT_FOR_A_BELL),
     }
 }
 
@@ -144,6 +145,21 @@ fn no_wire<'a>(value: &'a str, reason: &'static str) -> Misfit<'a> {
         option: "wire",
         value,
         reason,
+    }
+}
+
+// What is wrong with a wire, or with the `--seize` of all lines, where a bell does not go with that.
+fn or_seize<'a>(words: &Words<'a>, misfit: Misfit<'a>) -> Misfit<'a> {
+    match words.text("seize") {
+        Some(value) if misfit.reason == TOO_SHORT_FOR_A_BELL && !misfit.value.contains(",seize=") =>
+            {
+                Misfit {
+                    option: "seize",
+                    value,
+                    ..misfit
+                }
+            }
+        _ => misfit,
     }
 }
 
@@ -285,7 +301,11 @@ pub fn request_of<'a, G: Drop>(
         Err(misfit) => return Err(Answer::Unfit(misfit)),
     };
     let all = said_of_all(words);
-    let Wires { lines, names } = wires_of(alloc, all, words.texts("wire").unwrap_or(&[]))?;
+    let Wires { lines, names } = match wires_of(alloc, all, words.texts("wire").unwrap_or(&[])) {
+        Ok(wires) => wires,
+        Err(Answer::Unfit(misfit)) => return Err(Answer::Unfit(or_seize(words, misfit))),
+        Err(answer) => return Err(answer),
+    };
     Ok(Request {
         recording: words.text("RECORDING"),
         table: words.text("table"),

@@ -1,3 +1,8 @@
+pub mod WatchedLines
+pub mod SettledSteps
+pub mod FollowedBench
+pub mod SettledRuns
+pub mod RowDigits
 pub mod Sounding
 pub mod Places
 pub mod Parts

@@ -13,11 +13,11 @@ use Rattle.xb_contact.specs.Times.{scale_by}
 use Rattle.xb_contact.proofs.JoinedHolds.{join_is, left, taken_in}
 use Rattle.xb_chance.specs.Words.{state_after}
 use Rattle.xb_vcd.specs.WrittenVcd.{vcd_events}
-use Rattle.xb_trace.specs.declared.bouncing.Bouncing.{Bouncing}
-use Rattle.xb_trace.specs.Drawn.{disturbed_from}
-use Rattle.xb_trace.specs.Runs.{hold_of_row, in_us, on_hook, runs_in}
-use Rattle.xb_trace.specs.Traces.{changes_from, clean_of, trace_changes, trace_end, trace_of}
-use Rattle.xb_trace.proofs.TraceTotals.{recorded-total}
+use Rattle.xb_dial.specs.declared.bouncing.Bouncing.{Bouncing}
+use Rattle.xb_dial.specs.Drawn.{disturbed_from}
+use Rattle.xb_dial.specs.Runs.{hold_of_row, in_us, on_hook, runs_in}
+use Rattle.xb_dial.specs.Traces.{changes_from, clean_of, trace_changes, trace_end, trace_of}
+use Rattle.xb_dial.proofs.TraceTotals.{recorded-total}
 use Rattle.xb_loop.specs.WireRecords.{WireRecord, holds_from, record_from}
 use Rattle.xb_laws.specs.TraceTapes.{TracesAreRecorded, record_of_trace, said_of}
 

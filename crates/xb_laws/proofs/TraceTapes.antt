@@ -13,10 +13,10 @@ use Rattle.xb_loop.specs.RecordingLaws.{IsDisturbed, IsRecorded, rows_written}
 use Rattle.xb_loop.specs.RowsOfHolds.{rows_of_holds}
 use Rattle.xb_loop.specs.TapeLaws.{MakeOneTape}
 use Rattle.xb_loop.proofs.Recordings.{keeps_the_tape_unless_asked}
-use Rattle.xb_trace.specs.declared.bouncing.Bouncing.{Bouncing}
-use Rattle.xb_trace.specs.TraceLaws.{AreLong}
-use Rattle.xb_trace.specs.Traces.{trace_of}
-use Rattle.xb_trace.proofs.TraceLaws.{clean_in_ms, traces_keep_runs, traces_settle}
+use Rattle.xb_dial.specs.declared.bouncing.Bouncing.{Bouncing}
+use Rattle.xb_dial.specs.TraceLaws.{AreLong}
+use Rattle.xb_dial.specs.Traces.{trace_of}
+use Rattle.xb_dial.proofs.TraceLaws.{clean_in_ms, traces_keep_runs, traces_settle}
 use Rattle.xb_laws.specs.TraceTapes.{IsPlain, TracesMakeTheTape, record_of_trace, said_of}
 use Rattle.xb_laws.proofs.TraceRecords.{traces_are_recorded}
 

@@ -1,3 +1,4 @@
+pub mod RowDigits
 pub mod Timed
 pub mod Tandem
 pub mod Dialled

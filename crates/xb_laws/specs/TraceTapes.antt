@@ -14,10 +14,10 @@ use Rattle.xb_loop.specs.RecordingLaws.{rows_written}
 use Rattle.xb_loop.specs.RowsOfHolds.{rows_of_holds}
 use Rattle.xb_loop.specs.TapeLaws.{MakeOneTape}
 use Rattle.xb_loop.specs.WireRecords.{WireRecord, record_of_wire}
-use Rattle.xb_trace.specs.declared.bouncing.Bouncing.{Bouncing}
-use Rattle.xb_trace.specs.Runs.{runs_in}
-use Rattle.xb_trace.specs.TraceLaws.{AreLong}
-use Rattle.xb_trace.specs.Traces.{trace_changes, trace_end, trace_of}
+use Rattle.xb_dial.specs.declared.bouncing.Bouncing.{Bouncing}
+use Rattle.xb_dial.specs.Runs.{runs_in}
+use Rattle.xb_dial.specs.TraceLaws.{AreLong}
+use Rattle.xb_dial.specs.Traces.{trace_changes, trace_end, trace_of}
 
 -- what a trace says, as it is read back
 abbrev pub said_of : Bouncing → List LoopRow → List Event

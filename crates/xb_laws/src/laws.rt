@@ -6,6 +6,7 @@ ghost use Rattle.xb_laws.specs.Timed.{TimesAreTold};
 ghost use Rattle.xb_laws.specs.Worked.{AreSentAsWorked};
 ghost use Rattle.xb_laws.specs.Tuned.{KeysAreTold, StandardKeysAreTold};
 ghost use Rattle.xb_laws.specs.TraceTapes.{TracesAreRecorded, TracesMakeTheTape};
+ghost use Rattle.xb_laws.specs.RowDigits.{RowsHaveTheDigits};
 
 use xb_calls::laws::dialled_is_heard;
 use xb_ear::laws::disturbed_keys_are_heard;
@@ -83,4 +84,11 @@ pub fn standard_keys_are_told()
 pub fn the_trace_makes_the_tape_of_its_rows()
     ensures is_recorded { TracesAreRecorded }
     ensures tape { TracesMakeTheTape }
+{}
+
+/// **What `mfbench` tells of a line is what `mfhear` tells of the rows that `mfloop` writes of it**: of a recording that
+/// `mfbench` takes, and a line each make of which seizes and whose runs settle in 1 ms or more, as its words ask for, the
+/// digits that are told have the pulses and the first fault of those of the report, by any plan and the same limits.
+pub fn the_rows_have_the_digits()
+    ensures { RowsHaveTheDigits }
 {}

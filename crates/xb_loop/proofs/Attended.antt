@@ -21,11 +21,11 @@ use Rattle.xb_loop.specs.declared.fault.LoopFault.{LoopFault}
 use Rattle.xb_loop.specs.declared.fault.LoopFault.TheVariants as faults
 use Rattle.xb_feed.specs.declared.fault.RecordingFault.{RecordingFault}
 use Rattle.xb_feed.specs.declared.request.Request.{Request}
-use Rattle.xb_wires.specs.declared.listing.ListFault.{ListFault}
-use Rattle.xb_wires.specs.declared.listing.Listing.{Listing}
+use Rattle.xb_loop.specs.declared.listing.ListFault.{ListFault}
+use Rattle.xb_loop.specs.declared.listing.Listing.{Listing}
 use Rattle.xb_feed.specs.LackedWires.{missing_name}
 use Rattle.xb_recording.specs.Says.{names_in}
-use Rattle.xb_wires.specs.Listing.{IsUnlisted}
+use Rattle.xb_loop.specs.Listing.{IsUnlisted}
 use Rattle.xb_loop.specs.Program.{DeliversWires, FailsToGo, FailsToList, HadFault, FailsToPrint, IsFaultOfRecording, IsListing, PrintsDeck, IsListed, TellsMore, TellsOfBounces, TellsWires, WritesListing, WritesRows, WritesWires}
 
 -- all was written, and told or not

@@ -1,3 +1,8 @@
+pub mod Names
+pub mod Wires
+pub mod Counts
+pub mod Constants
+pub mod Listing
 pub mod RowsOfHolds
 pub mod HeardLaws
 pub mod TapeLaws

@@ -19,9 +19,9 @@ use Rattle.xb_recording.specs.Says.{names_in}
 use Rattle.xb_feed.specs.Feeding.{FailsToListen, ListensTo}
 use Rattle.xb_loop.specs.Options.{AskNothing, Asks}
 use Rattle.xb_loop.specs.Watching.{by_rows}
-use Rattle.xb_wires.specs.Listing.{IsUnlisted, ListsWires}
-use Rattle.xb_wires.specs.declared.listing.ListFault.{ListFault}
-use Rattle.xb_wires.specs.declared.listing.Listing.{Listing}
+use Rattle.xb_loop.specs.Listing.{IsUnlisted, ListsWires}
+use Rattle.xb_loop.specs.declared.listing.ListFault.{ListFault}
+use Rattle.xb_loop.specs.declared.listing.Listing.{Listing}
 use Rattle.xb_loop.specs.Tables.{IsBeforeRows, IsFaultOfTable, IsReleaseOf}
 use Rattle.xb_loop.specs.WireLines.{listing_text, more_note}
 

@@ -2,7 +2,7 @@
 use Rattle.std.specs.Prelude.{ℕ, ◌+◌, List, [], ◌∷◌, ◌++◌, Bool, true, false, Option, Some, None, chars, codes, decimal, encode_utf8, map, option_map, slice_get, string_bytes, if◌then◌else◌}
 use Rattle.std.specs.Char.{is_control}
 use Rattle.std.specs.List.{flat_map}
-use Rattle.xb_wires.specs.declared.listing.Listing.{Listing}
+use Rattle.xb_loop.specs.declared.listing.Listing.{Listing}
 
 -- a character as it is told in a line: `?` (63) for a control character
 abbrev pub sign_text : ℕ → List ℕ

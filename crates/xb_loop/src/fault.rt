@@ -2,12 +2,12 @@
 ghost use Rattle.std.specs.Prelude.{◌≡◌};
 
 use crate::wires::AllWires;
+use crate::{ListFault, Listing};
 use std::alloc::AllocError;
 use std::io;
 use thiserror::Error;
 use xb_feed::{InOneLine, RecordingFault};
 use xb_routes::RouteFault;
-use xb_wires::{ListFault, Listing};
 
 /// Why the program writes no deck, or no further rows of it.
 #[derive(Debug, Drop, Error)]

@@ -2,9 +2,9 @@
 ghost use Rattle.std.specs.Prelude.{◌≡◌, ◌++◌, IfOk, OnOk, map, option_map, string_bytes};
 ghost use Rattle.xb_loop.specs.WireLines.{edges_text, in_one_line, lines_from, listing_text, sign_text, wire_line};
 
+use crate::Listing;
 use crate::wires::edges_at;
 use std::alloc::{AllocError, Global};
-use xb_wires::Listing;
 
 // Adds a character: a control character, as an LF or an escape, as `?`.
 fn push_sign(text: &mut String, sign: char) -> Result<(), AllocError>

@@ -12,6 +12,7 @@ use crate::fault::LoopFault;
 use crate::listed::listing_text;
 use crate::table::beginning_of;
 use crate::words::{Asked, asked_of};
+use crate::{Listing, list_wires};
 use std::alloc::Global;
 use std::io::{Read, Write};
 use xb_command::{
@@ -19,7 +20,6 @@ use xb_command::{
 };
 use xb_feed::{AskedLine, RecordingFault, Request, listen, missing_name};
 use xb_text::write_whole;
-use xb_wires::{Listing, list_wires};
 
 // The line before the rows.
 const HEADER: &[u8] = b"line,state,ms\n";

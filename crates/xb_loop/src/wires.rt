@@ -2,9 +2,9 @@
 ghost use Rattle.std.specs.Prelude.{◌≡◌, option_map};
 ghost use Rattle.xb_loop.specs.WireLines.{edges_at};
 
+use crate::Listing;
 use std::fmt;
 use xb_feed::InOneLine;
-use xb_wires::Listing;
 
 /// The names of wires in one line, each with its edges, where these were counted.
 #[derive(Clone, Copy)]

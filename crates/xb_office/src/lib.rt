@@ -10,7 +10,7 @@
 //! - `attend`: the same of options alone and a deck that is open; refused options tell the usage and nothing else.
 //!   `attend_by` is `attend` past any gate.
 //! - `laws::made_decks_say_their_page`: a deck that is made of a table and rows, and is not too long, says
-//!   their page.
+//!   their page. `laws::usage_names_each_option`: the line of refused words does.
 //!
 //! Not said: that there are as many posts, and rings as large, as the words say. `test_office` counts both by
 //! a gate.

@@ -1,6 +1,5 @@
 // From a table and numbers to what is done with them.
-ghost use Rattle.std.specs.Prelude.{◌≡◌, ◌≢◌, [], IfErr, IfOk, Err, Ok, map, string_bytes};
-ghost use Rattle.xb_route.specs.Options.{words_of};
+ghost use Rattle.std.specs.Prelude.{◌≡◌, [], IfErr, IfOk, Err, Ok, map};
 ghost use Rattle.xb_route.specs.Routing.{AreGiven, AreNumbers, Delivers, IsFaultOfNumbers, line_of, lines_of};
 ghost use Rattle.xb_route.specs.TextSteps.{digits_of_numbers};
 

@@ -19,7 +19,7 @@ use Rattle.xb_clock.specs.Clocks.{Clock}
 use Rattle.xb_rx.specs.Timed.{timing_by}
 use Rattle.xb_rx.specs.Reports.{Reported, on_page}
 use Rattle.xb_rx.proofs.WrittenText.{none-written}
-use Rattle.xb_wav.specs.Samples.{Sound}
+use Rattle.xb_rx.specs.Samples.{Sound}
 
 -- a text of no byte, and one of some
 pub empty-text : (text : List ℕ) → (length text == 0) ≡ true → text ≡ []

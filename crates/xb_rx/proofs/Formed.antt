@@ -6,9 +6,9 @@ use Rattle.std.specs.Coded.{Unit-prop}
 use Rattle.xb_rx.specs.Hearing.{HasForm}
 use Rattle.xb_rx.specs.declared.request.Input.{Input}
 use Rattle.xb_rx.specs.declared.request.Input.TheVariants as input
-use Rattle.xb_wav.specs.Samples.{IsForm}
-use Rattle.xb_wav.specs.declared.coding.SampleForm.{SampleForm}
-use Rattle.xb_wav.specs.declared.coding.TheConstants.{MOST_CHANNELS, MOST_FRAMES}
+use Rattle.xb_rx.specs.Samples.{IsForm}
+use Rattle.xb_rx.specs.declared.coding.SampleForm.{SampleForm}
+use Rattle.xb_rx.specs.declared.coding.TheConstants.{MOST_CHANNELS, MOST_FRAMES}
 
 -- there is one proof of it at most
 IsForm-prop : (form : SampleForm) → IsProp (IsForm form)

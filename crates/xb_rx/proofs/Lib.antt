@@ -1,3 +1,10 @@
+pub mod Channels
+pub mod Filters
+pub mod Samples
+pub mod Walks
+pub mod Sounds
+pub mod SmallWeights
+pub mod Slides
 pub mod KeyPairs
 pub mod KeyingSteps
 pub mod PlacedKeyings

@@ -21,7 +21,7 @@ use Rattle.xb_rx.specs.declared.request.Request.{Request}
 use Rattle.xb_rx.specs.declared.request.Written.TheVariants as written
 use Rattle.xb_rx.specs.Hearing.{DeliversTimed, Outputs, outputs, sound_by, told_text_of}
 use Rattle.xb_rx.specs.Pages.{heard_entries, page_of}
-use Rattle.xb_wav.specs.Samples.{Sound}
+use Rattle.xb_rx.specs.Samples.{Sound}
 
 -- the keyed entries of the page in a file, whose lines end at LF or at CR LF, where its bytes are known
 abbrev pub HasKeyed : Option (List ℕ) → List KeyedEntry → Type 0

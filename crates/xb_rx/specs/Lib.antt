@@ -1,3 +1,8 @@
+pub mod Constants
+pub mod Samples
+pub mod Streams
+pub mod Starts
+pub mod Weights
 pub mod Faults
 pub mod Begun
 pub mod Placed

@@ -19,9 +19,9 @@ use Rattle.xb_rx.specs.declared.request.Request.{Request}
 use Rattle.xb_rx.specs.declared.request.Written.{Written}
 use Rattle.xb_rx.specs.declared.request.Written.TheVariants as written
 use Rattle.xb_rx.specs.declared.words.Options.{Options}
-use Rattle.xb_wav.specs.declared.coding.SampleForm.{SampleForm}
-use Rattle.xb_wav.specs.declared.coding.TheConstants.{MOST_CHANNELS}
-use Rattle.xb_wav.specs.Starts.{form_with, frames_of}
+use Rattle.xb_rx.specs.declared.coding.SampleForm.{SampleForm}
+use Rattle.xb_rx.specs.declared.coding.TheConstants.{MOST_CHANNELS}
+use Rattle.xb_rx.specs.Starts.{form_with, frames_of}
 
 -- the sound is samples alone where a form of these is named
 abbrev pub is_raw : Option Text → Bool

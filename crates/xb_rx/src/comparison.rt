@@ -1,5 +1,5 @@
 // What was keyed, compared with what is heard while it is heard.
-use crate::differences::{write_all_missed, write_up_to};
+use crate::differing::{write_all_missed, write_up_to};
 use crate::keyed::Keyed;
 use std::alloc::{AllocError, Global};
 use std::marker::Model;

@@ -3,6 +3,7 @@ ghost use Rattle.xb_rx.specs.Comparing.{EntriesAreAtTheirKp, HeardIsPaged};
 ghost use Rattle.xb_rx.specs.Objects.{ObjectsHaveEntries};
 ghost use Rattle.xb_rx.specs.PagedKeys.{KeyedIsPaged};
 ghost use Rattle.xb_rx.specs.Differences.{SameKeysDoNotDiffer};
+ghost use Rattle.xb_rx.specs.Constants.{AreConstants};
 
 /// What is keyed is the page of what is heard, disturbed too: an entry for each keying, in order, and no key that is
 /// in none.
@@ -28,4 +29,9 @@ pub fn objects_have_entries()
 /// There are no differences just where the keys are the same.
 pub fn same_keys_do_not_differ()
     ensures { SameKeysDoNotDiffer }
+{}
+
+/// The numbers that documents name.
+pub fn constants()
+    ensures { AreConstants }
 {}

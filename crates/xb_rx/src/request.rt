@@ -1,9 +1,9 @@
 // What is asked for.
 ghost use Rattle.xb_rx.specs.Hearing.{HasForm};
 
+use crate::SampleForm;
 use jiff_core::Timestamp;
 use xb_model::{LineNo, Trunk};
-use xb_wav::SampleForm;
 
 /// How a sound is given.
 #[derive(Clone, Copy, Debug, PartialEq, Eq)]

@@ -1,15 +1,15 @@
 // The words of the program, and what they ask for.
 ghost use Rattle.std.specs.Prelude.{◌≡◌, ◌<◌, ◌≤◌, IfErr, IfOk, IfSome, option_map};
 ghost use Rattle.xb_rx.specs.Hearing.{HasForm};
-ghost use Rattle.xb_wav.specs.Samples.{IsForm};
+ghost use Rattle.xb_rx.specs.Samples.{IsForm};
 ghost use Rattle.xb_rx.specs.Options.{AskNothing, Say, SayAsked, channel_of, channels_of, input_of, is_mu_law, is_plain, is_raw, line_of, raw_coding, raw_form, request_by, request_of, says_told, shown_by, time_of, told_keys, told_of, trunk_of, written_of};
 
 use crate::request::{Asked, Input, Request, Written};
+use crate::{Coding, MOST_CHANNELS, SampleForm, frames_of};
 use jiff_core::Timestamp;
 use xb_clock::{Since, no_time, since_of};
 use xb_command::{FLAG, Misfit, NOTHING, Program, Value, Word, Words};
 use xb_model::{LINES, LineNo, TRUNKS, Trunk};
-use xb_wav::{Coding, MOST_CHANNELS, SampleForm, frames_of};
 
 /// The program and its words.
 pub const PROGRAM: Program<'static> = Program {

@@ -2,10 +2,10 @@
 use Rattle.std.proofs.Common.{◌≡◌, ℕ, ◌<◌, List, length, Option, Some, None, Err, sym, subst, inl, inr, refl}
 use Rattle.std.specs.Prelude.{IfSome}
 use Rattle.std.proofs.KnownBytes.{Keeps-refl}
-use Rattle.xb_placed.specs.declared.entry.PlacedEntry.{PlacedEntry}
-use Rattle.xb_placed.specs.Cuts.{lines_of_cuts}
-use Rattle.xb_placed.specs.Sounds.{bytes_of}
-use Rattle.xb_placed.specs.Times.{AreInOrder}
+use Rattle.xb_tone.specs.declared.entry.PlacedEntry.{PlacedEntry}
+use Rattle.xb_tone.specs.Cuts.{lines_of_cuts}
+use Rattle.xb_tone.specs.Sounds.{bytes_of}
+use Rattle.xb_tone.specs.Times.{AreInOrder}
 use Rattle.xb_text.specs.Writing.{AppendsBeginning}
 use Rattle.xb_tone.specs.declared.fault.ToneFault.{ToneFault}
 use Rattle.xb_tone.specs.declared.request.Request.{Request}

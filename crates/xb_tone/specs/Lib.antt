@@ -1,3 +1,10 @@
+pub mod Entries
+pub mod Sounds
+pub mod Times
+pub mod Cuts
+pub mod Objects
+pub mod Texts
+pub mod Laws
 pub mod Givens
 pub mod Manners
 pub mod Faults

@@ -4,13 +4,13 @@ use Rattle.std.specs.Io.KnownBytes.{Appends, Keeps}
 use Rattle.std.specs.List.{filter, list_any}
 use Rattle.xb_text.specs.Writing.{AppendsBeginning}
 use Rattle.xb_sound.specs.Wavs.{wav_length}
-use Rattle.xb_placed.specs.declared.entry.PlacedEntry.{PlacedEntry}
-use Rattle.xb_placed.specs.declared.text.TheConstants.{MOST_TEXT_BYTES}
-use Rattle.xb_placed.specs.Cuts.{lines_of_cuts}
-use Rattle.xb_placed.specs.Entries.{is_keyed}
-use Rattle.xb_placed.specs.Sounds.{bytes_of, sound_at}
-use Rattle.xb_placed.specs.Texts.{entries_of_text}
-use Rattle.xb_placed.specs.Times.{AreInOrder, early_line}
+use Rattle.xb_tone.specs.declared.entry.PlacedEntry.{PlacedEntry}
+use Rattle.xb_tone.specs.declared.text.TheConstants.{MOST_TEXT_BYTES}
+use Rattle.xb_tone.specs.Cuts.{lines_of_cuts}
+use Rattle.xb_tone.specs.Entries.{is_keyed}
+use Rattle.xb_tone.specs.Sounds.{bytes_of, sound_at}
+use Rattle.xb_tone.specs.Texts.{entries_of_text}
+use Rattle.xb_tone.specs.Times.{AreInOrder, early_line}
 use Rattle.xb_tone.specs.declared.at_fault.AtFault.TheVariants as at_fault
 use Rattle.xb_tone.specs.declared.fault.ToneFault.{ToneFault}
 use Rattle.xb_tone.specs.declared.fault.ToneFault.TheVariants as fault

@@ -1,9 +1,9 @@
 // From entries on a reader to their sound, each at its time, on a writer.
 ghost use Rattle.std.specs.Prelude.{◌≡◌, ◌<◌, ◌≤◌, IfErr, IfOk, IfSome, OnOk, length};
 ghost use Rattle.std.specs.List.{list_any};
-ghost use Rattle.xb_placed.specs.declared.text.TheConstants.{MOST_TEXT_BYTES};
-ghost use Rattle.xb_placed.specs.Cuts.{lines_of_cuts};
-ghost use Rattle.xb_placed.specs.Times.{AreInOrder};
+ghost use Rattle.xb_tone.specs.declared.text.TheConstants.{MOST_TEXT_BYTES};
+ghost use Rattle.xb_tone.specs.Cuts.{lines_of_cuts};
+ghost use Rattle.xb_tone.specs.Times.{AreInOrder};
 ghost use Rattle.xb_tone.specs.Placing.{DeliversAt, IsFaultOfEntries, IsFaultOfReading, Places, TellsCuts, entries_chosen, is_asked, program, sounds_at};
 ghost use Rattle.xb_tone.specs.Sounding.{JudgesCadence};
 
@@ -11,11 +11,11 @@ use crate::at_fault::AtFault;
 use crate::fault::ToneFault;
 use crate::request::{Choice, Request};
 use crate::words::NAME;
-use std::alloc::{AllocError, Global};
-use std::io::{Read, Write};
-use xb_placed::{
+use crate::{
     MOST_TEXT_BYTES, PlacedEntry, early_line, entries_of_text, lines_of_cuts, write_placed,
 };
+use std::alloc::{AllocError, Global};
+use std::io::{Read, Write};
 use xb_sound::Cadence;
 use xb_text::{ReadFault, read_whole, write_whole};
 

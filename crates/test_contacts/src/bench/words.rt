@@ -39,6 +39,34 @@ const REFUSED: &[&[&str]] = &[
     &["--wire", "7=1", "--wire", "8=2", "--svg"],
 ];
 
+// Words with one value that the program does not take, and how the line begins that names it with its option.
+const NAMED: [(&[&str], &str); 6] = [
+    (
+        &["--wire", "7=1", "--wire", "8=2,settle=0"],
+        "mfbench: invalid value '8=2,settle=0' for '--wire': ",
+    ),
+    (
+        &["--wire", "7=1", "--wire", "8=2,seize=150"],
+        "mfbench: invalid value '8=2,seize=150' for '--wire': ",
+    ),
+    (
+        &["--wire", "7=1", "--speed", "10", "--share", "58-64"],
+        "mfbench: invalid value '10' for '--speed': ",
+    ),
+    (
+        &["--wire", "7=1", "--speed", "9.5-10.5", "--share", "64-58"],
+        "mfbench: invalid value '64-58' for '--share': ",
+    ),
+    (
+        &["--wire", "7=1", "--limit", "pause=0"],
+        "mfbench: invalid value 'pause=0' for '--limit': each is NAME=MS",
+    ),
+    (
+        &["--wire", "7=1", "--limit", "pulse_max=300"],
+        "mfbench: invalid value 'pulse_max=300' for '--limit': pulse_min is at most pulse_max",
+    ),
+];
+
 const WORDS: &[&str] = &["--wire", "7=1"];
 
 // Of two wires that a recording of one lacks the first is told.
@@ -63,6 +91,22 @@ fn refuses_words(rt: HostRuntime) -> Result<(), Fail> {
             && told.ends_with(b"; mfbench --help says more\n");
         assert!(rt; is_line, "{}", told.escape_ascii());
         assert!(rt; out.is_empty());
+    }
+    Ok(())
+}
+
+#[test]
+fn names_the_value_that_is_none(rt: HostRuntime) -> Result<(), Fail> {
+    for (words, line) in NAMED {
+        let mut out = Vec::new(rt.alloc());
+        let mut reader = WRONG;
+        let (status, told) = attended(rt.alloc(), words, &mut reader, &mut out)?;
+        assert_eq!(rt; status, 2);
+        assert!(rt;
+            told.starts_with(line.as_bytes()),
+            "{}",
+            told.escape_ascii()
+        );
     }
     Ok(())
 }

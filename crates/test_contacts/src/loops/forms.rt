@@ -16,7 +16,7 @@ const TEXTS: &[Form] = &[
 $upscope $end\n$enddefinitions $end\n#5 0!\n#15 1!\n#35\n",
     ),
     (
-        &["7=clk"],
+        &["--wire", "7=clk"],
         b"$comment a b $end $timescale\n10us\n$end $var reg 1 ab clk $end $var wire 8 ! bus $end
 $enddefinitions $end\n$dumpvars\nb0 ab\nbxxxx0000 !\n$end\n#1000\nb1 ab\r\n#3000",
     ),

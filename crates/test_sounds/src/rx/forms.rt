@@ -1,7 +1,7 @@
 // WAV files as sox writes them into a pipe, and what is heard of them. A program of Python alone reckons it: it makes
 // the weights by the formula of DEFINITIONS.
 use std::test::Fail;
-use xb_wav::{Source, UNKNOWN_SAMPLES, open_wav};
+use xb_rx::{Source, UNKNOWN_SAMPLES, open_wav};
 
 // Of 48,000 samples a second and two channels: 7,100 Hz, and 900 Hz.
 const TWO_TONES: &[u8] =

@@ -231,7 +231,7 @@ more\n",
         b"",
         2,
         b"",
-        b"mftandem: unexpected argument 'more' found; mftandem --help says more\n",
+        b"mftandem: there is one word too many, 'more'; mftandem --help says more\n",
     ),
 ];
 

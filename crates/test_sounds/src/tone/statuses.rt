@@ -338,7 +338,7 @@ const REFUSED: &[(&[&str], &[u8])] = &[
     ),
     (
         &["--keys", "KP", "--level", "-20.5"],
-        b"mftone: there is no option '-2'; a value that begins with - needs =, as in --level=-20.5; mftone --help says more\n",
+        b"mftone: there is no option '-20.5'; a value that begins with - needs =, as in --level=-20.5; mftone --help says more\n",
     ),
     (
         &["--keys", "KP", "--twist=+1"],
@@ -432,7 +432,7 @@ const REFUSED: &[(&[&str], &[u8])] = &[
     ),
     (
         &["--speed", "10"],
-        b"mftone: there is no option '--speed'; mftone --help says more\n",
+        b"mftone: there is no option '--speed'; a similar argument exists: '--seed'; mftone --help says more\n",
     ),
     (
         &["day.page", "7"],

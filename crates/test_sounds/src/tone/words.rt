@@ -1,10 +1,9 @@
 // The words of each fault, as the table of faults has them.
 use std::test::Fail;
 use xb_page::PageFault;
-use xb_placed::LineFault;
 use xb_signal::{KeysFault, Place};
 use xb_sound::CadenceFault;
-use xb_tone::{AtFault, ToneFault};
+use xb_tone::{AtFault, LineFault, ToneFault};
 
 const WORDS: &[(ToneFault, &str)] = &[
     (
