@@ -1,3 +1,0 @@
-pub mod HeardSoFar
-pub mod FewSignals
-pub mod Refusals

@@ -1,4 +1,0 @@
-pub mod Ended
-pub mod ObjectValues
-pub mod DrawnDigits
-pub mod Unfit

@@ -1,6 +1,0 @@
-pub mod Deals
-pub mod GatherInputs
-pub mod Gathers
-pub mod Merged
-pub mod MergedImages
-pub mod Sames

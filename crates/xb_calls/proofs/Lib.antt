@@ -1,9 +1,0 @@
-pub mod CompleteNumbers
-pub mod DialledTrains
-pub mod DialledRuns
-pub mod HeardNumbers
-pub mod RowsOfLines
-pub mod Turns
-pub mod TextLines
-pub mod Pulses
-pub mod LinesOfCalls

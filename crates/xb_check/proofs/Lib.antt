@@ -1,2 +1,0 @@
-mod ReportTexts
-mod Doubting

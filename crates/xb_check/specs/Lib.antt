@@ -1,9 +1,0 @@
-pub mod Constants
-pub mod Alone
-pub mod Judged
-pub mod Doubts
-pub mod Reports
-pub mod TallyTexts
-pub mod Named
-pub mod Options
-pub mod Program

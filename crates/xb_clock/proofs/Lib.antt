@@ -1,3 +1,0 @@
-pub mod TimesTold
-pub mod PutTexts
-pub mod TimeValues

@@ -1,3 +1,0 @@
-pub mod Clocks
-pub mod Since
-pub mod Objects

@@ -1,4 +1,0 @@
-pub mod Closed
-pub mod Fed
-pub mod Left
-pub mod LineUses

@@ -1,7 +1,0 @@
-pub mod Constants
-pub mod Deck
-pub mod MadeDecks
-pub mod Tables
-pub mod WorkedDecks
-pub mod Contents
-pub mod Faults

@@ -1,6 +1,0 @@
-mod RowActivities
-mod Tails
-mod RowStories
-mod HeardLines
-mod PartRows
-mod BothWays

@@ -1,6 +1,0 @@
-pub mod Tellings
-mod TextLines
-mod TakenLines
-mod SeparatedRecords
-mod NearCuts
-mod Placing

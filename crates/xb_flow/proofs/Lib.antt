@@ -1,4 +1,0 @@
-pub mod Flows
-pub mod Prefixes
-pub mod Rings
-pub mod Sames

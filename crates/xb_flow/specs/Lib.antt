@@ -1,3 +1,0 @@
-pub mod Flows
-pub mod Pauses
-pub mod Rings

@@ -1,4 +1,0 @@
-pub mod Chain
-pub mod ClosedAll
-pub mod ClosedOnce
-pub mod LineTapes

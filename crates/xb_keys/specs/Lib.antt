@@ -1,4 +1,0 @@
-pub mod Keys
-pub mod Table
-pub mod Spots
-pub mod Walks

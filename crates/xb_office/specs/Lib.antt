@@ -1,6 +1,0 @@
-pub mod DeckPage
-pub mod Faults
-pub mod MadeDecks
-pub mod Options
-pub mod Program
-pub mod Usage

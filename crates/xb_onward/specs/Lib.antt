@@ -1,5 +1,0 @@
-pub mod Keys
-pub mod Outcomes
-pub mod Registering
-pub mod Sending
-pub mod Forgetting

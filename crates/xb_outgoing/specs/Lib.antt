@@ -1,4 +1,0 @@
-pub mod Groups
-pub mod Tables
-pub mod Files
-pub mod Worked

@@ -1,7 +1,0 @@
-pub mod Entries
-pub mod Places
-pub mod ReadPages
-pub mod Sheets
-pub mod PageLines
-pub mod ReadBack
-pub mod LineEnds

@@ -1,4 +1,0 @@
-pub mod Feeds
-pub mod Fillings
-pub mod Slices
-pub mod TapeStations

@@ -1,5 +1,0 @@
-pub mod Patterns
-pub mod Outcomes
-pub mod Attempts
-pub mod AtMost
-pub mod PlainStates

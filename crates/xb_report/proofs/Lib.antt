@@ -1,3 +1,0 @@
-pub mod Pushed
-pub mod Marks
-pub mod Joined

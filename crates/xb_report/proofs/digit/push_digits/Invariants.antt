@@ -1,9 +1,0 @@
-use Rattle.std.proofs.Common.{◌≡◌, ◌++◌, drop, map, string_bytes}
-use Rattle.xb_heard.specs.Digits.{digit_in}
-use Rattle.xb_report.specs.ReportTexts.{digits_from}
-use Rattle.xb_report.proofs.digit.push_digits.Given as goal
-
-abbrev pub invariant-loop-index : goal.invariant-loop-index
-invariant-loop-index l =
-    string_bytes l.out ++ digits_from l.limits l.outcome l.index (map digit_in (drop l.index l.digits))
-    ≡ string_bytes l.fn.out ++ digits_from l.limits l.outcome 0 (map digit_in l.digits)

@@ -1,9 +1,0 @@
-use Rattle.std.proofs.Common.{append_assoc}
-use Rattle.xb_report.specs.ReportTexts.{limits_text}
-use Rattle.xb_report.proofs.Pushed.{last}
-use Rattle.xb_report.proofs.report.push_limits.Goals as goal
-
-pub returns : goal.returns
-returns c =
-    last c.write-2.result _ _ _ _ _ (limits_text c.args.limits) c.in_ok-write.ensures.bytes
-    c.write-2.ensures.bytes (simp append_assoc)

@@ -1,6 +1,0 @@
-pub mod Cells
-pub mod Words
-pub mod ReportTexts
-pub mod Marked
-pub mod Rows
-pub mod Pages

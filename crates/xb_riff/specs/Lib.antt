@@ -1,4 +1,0 @@
-pub mod Codings
-pub mod Floats
-pub mod Heads
-pub mod MuLawBytes

@@ -1,6 +1,0 @@
-pub mod Completing
-pub mod NumberLines
-pub mod KeyValues
-pub mod Keyed
-pub mod Sent
-pub mod Asked

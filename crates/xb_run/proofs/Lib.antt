@@ -1,9 +1,0 @@
-pub mod BranchLists
-pub mod Chains
-pub mod Drained
-pub mod Joins
-pub mod Pairs
-pub mod Promises
-pub mod Pushes
-pub mod Settled
-pub mod Unserved

@@ -1,4 +1,0 @@
-pub mod FlowImages
-pub mod ImagePrefixes
-pub mod Sames
-pub mod Stations

@@ -1,2 +1,0 @@
-pub mod FlowImages
-pub mod Stations

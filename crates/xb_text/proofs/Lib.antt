@@ -1,3 +1,0 @@
-pub mod Beginnings
-mod CutPieces
-pub mod PlacedPieces

@@ -1,7 +1,0 @@
--- What was written to a stream.
-use Rattle.std.specs.Prelude.{ℕ, List, take, Option}
-use Rattle.std.specs.Io.KnownBytes.{Appends}
-
--- a writer got the beginning of a text
-abbrev pub AppendsBeginning : Option (List ℕ) → Option (List ℕ) → List ℕ → Type 0
-AppendsBeginning old new text = (n : ℕ) × Appends old new (take n text)

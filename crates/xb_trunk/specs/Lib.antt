@@ -1,5 +1,0 @@
-pub mod Sounded
-pub mod Laws
-pub mod Starts
-pub mod Leads
-pub mod StartLaws

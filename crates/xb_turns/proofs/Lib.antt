@@ -1,5 +1,0 @@
-pub mod DialRuns
-pub mod ReportParts
-pub mod Reported
-pub mod ReportedRuns
-pub mod AllDigits

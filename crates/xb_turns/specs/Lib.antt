@@ -1,9 +1,0 @@
-pub mod Trains
-pub mod Dials
-pub mod Figures
-pub mod Verdicts
-pub mod Sums
-pub mod Digits
-pub mod DialLaws
-pub mod ReportLaws
-pub mod SumLaws

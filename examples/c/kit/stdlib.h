@@ -1,8 +1,0 @@
-#ifndef STDLIB_H
-#define STDLIB_H
-#include <stddef.h>
-void *malloc(size_t);
-void *realloc(void *, size_t);
-void free(void *);
-void qsort(void *, size_t, size_t, int (*)(const void *, const void *));
-#endif
