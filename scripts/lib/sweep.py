@@ -52,7 +52,7 @@ def rows():
     for hole in ("3@10", "5@30", "7@20", "7@40"):
         yield MUST, "a hole of up to 7 ms in each key", 8, keyed(None, f"--hole={hole}")
     for other in ("2600:-13", "2600:-20", "60:-13", "180:-13"):
-        yield MUST, "a steady tone of -13 dBm0 and less beside", 8, keyed(None, quiet, f"--with={other}")
+        yield MUST, "a steady tone of -13 dBm0 and less beside", 8, keyed(None, quiet, f"--tone={other}")
     for hum in (-13, -20):
         yield MUST, "hum of the mains of -13 dBm0 and less beside", 8, keyed(None, quiet, f"--hum={hum}")
     for noise in (100, 277):
@@ -75,7 +75,7 @@ def rows():
     for hole in ("10@20", "12@30", "20@20"):
         yield MAY, "a hole of over 7 ms in each key", 6, keyed(None, f"--hole={hole}")
     for other in ("2600:-7", "2600:-1", "440:-13", "1000:-20"):
-        yield MAY, "another tone beside, louder or between those of the keys", 6, keyed(None, "--level=-13", f"--with={other}")
+        yield MAY, "another tone beside, louder or between those of the keys", 6, keyed(None, "--level=-13", f"--tone={other}")
     for noise in (1000, 3000, 6000):
         yield MAY, "noise over 277 in each sample", 6, keyed(None, "--noise-peak", str(noise))
     for detune in (-10, -6, 6, 10):

@@ -46,7 +46,7 @@ class Dial:
         self.faults = {place + (kind == "preliminary" and ("first",) or ()): (kind, ms) for place, kind, ms in faults}
 
     def fits(self):
-        """Whether the times of the words are within the standard limits, without which mfdial wants --beyond."""
+        """Whether the times of the words are within the standard limits, without which mfdial wants --out-of-limits."""
         it = self.times
         return (PULSE_MIN <= it["break"] <= PULSE_MAX and MAKE_MIN <= it["make"] < PAUSE <= it["pause"] < TIMEOUT
                 and 0 < it["seize"] < TIMEOUT and it["hang_up"] >= RELEASE)
@@ -200,7 +200,7 @@ class Case:
 
     def __init__(self, want, why, calls, dial, plan=7, words=()):
         self.want, self.why, self.calls, self.dial, self.plan = want, why, calls, dial, plan
-        self.words = [*dial.words, *([] if dial.fits() else ["--beyond"]), *([] if plan == 7 else ["--plan", str(plan)]), *words]
+        self.words = [*dial.words, *([] if dial.fits() else ["--out-of-limits"]), *([] if plan == 7 else ["--plan", str(plan)]), *words]
 
     def text(self):
         return "".join(f"{line} {number}\n" for line, number in self.calls)
@@ -382,12 +382,12 @@ def several_cases(dice):
         yield Case(MUST, "numbers of the plan of ten digits", [(7, number)], Dial(), plan=10)
     for digits in (1, 2, 3, 4, 5, 6):
         number = number_of(dice)[:digits]
-        yield Case(MUST, "a number that is not complete is abandoned", [(7, number)], Dial(), words=["--any"])
+        yield Case(MUST, "a number that is not complete is abandoned", [(7, number)], Dial(), words=["--incomplete"])
     for more in (1, 2, 3):
         number = number_of(dice) + number_of(dice)[:more]
-        yield Case(MUST, "digits after a number are ignored", [(7, number)], Dial(), words=["--any"])
+        yield Case(MUST, "digits after a number are ignored", [(7, number)], Dial(), words=["--incomplete"])
         faults = [((1, 8, 1), "break", 130)]
-        yield Case(MUST, "and so are spoiled ones", [(7, number)], Dial(faults=faults), words=["--any"])
+        yield Case(MUST, "and so are spoiled ones", [(7, number)], Dial(faults=faults), words=["--incomplete"])
 
 
 def cases():
@@ -432,7 +432,7 @@ def heard_by_mfhear(mfhear, mfloop):
             rows = dialled.read()
         if path.endswith(".vcd"):
             [line] = it["outcomes"]
-            rows = subprocess.run([mfloop, "--line", f"{line}=loop"], input=rows, stdout=subprocess.PIPE, check=True).stdout
+            rows = subprocess.run([mfloop, "--wire", f"{line}=loop"], input=rows, stdout=subprocess.PIPE, check=True).stdout
         deck = (b"" if it["plan"] == 7 else b"plan = 10\n") + b"---\n" + rows
         told = subprocess.run([mfhear, "--json"], input=deck, stdout=subprocess.PIPE, check=True).stdout
         lines = {}

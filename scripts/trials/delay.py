@@ -97,7 +97,7 @@ def main(mfbench, seconds):
     random_ = random.Random(SEED)
     contact, dialled = turns(random_, seconds)
     process = subprocess.Popen(
-        [mfbench, "--format", "bits", "--rate", str(RATE), "--line", "1=0"],
+        [mfbench, "--format", "bits", "--rate", str(RATE), "--wire", "1=0"],
         bufsize=0, stdin=subprocess.PIPE, stdout=subprocess.PIPE,
     )
     reader = Reader(process.stdout)

@@ -1,5 +1,5 @@
 /* A second receiver of MF tones, by docs/DEFINITIONS.md ("A receiver"), which knows nothing of xb_ear: it prints for
-   samples of 16 bits, 8,000 a second, the low byte first, just the lines that `mfrx --raw --tones` prints.
+   samples of 16 bits, 8,000 a second, the low byte first, just the lines that `mfrx --format s16 --tones` prints.
 
        second_ear < SAMPLES */
 #include <math.h>

@@ -3,12 +3,12 @@ code with mftone.
 
     tones.py LEAD KP KEY GAP < ENTRIES > WAV
     tones.py LEAD KP KEY GAP WORDS [--level DBM0] [--twist DB] [--detune PERCENT] [--skew MS] [--hole MS@MS]
-        [--phase] [--with HZ:DBM0] [--hum DBM0] [--noise-peak N] [--seed N] [--clip]
-        [--ulaw --heard WAV] > WAV
+        [--phase] [--tone HZ:DBM0] [--hum DBM0] [--noise-peak N] [--seed N] [--clip]
+        [--format=wav-ulaw --heard WAV] > WAV
 
 Entries are lines of a page of mfbank; what is no keyed entry is passed over. WORDS are those of mftone --keys, and have
 to be right, but one may be too loud: then nothing is written, its place is told, and the status is 1. The four times
-are in ms. With --ulaw each sample has a byte of mu-law, by a search of all 256; where two stand for samples that are as
+are in ms. By wav-ulaw each sample has a byte of mu-law, by a search of all 256; where two stand for samples that are as
 near, it is the one that the file of --heard has there.
 """
 import argparse
@@ -110,8 +110,8 @@ def sound(entry, lead, kp, key, gap):
 def all_through(given, count):
     """Returns so many samples of a steady tone and of a hum, without what is not asked for."""
     parts = []
-    if given.steady:
-        hz, level = given.steady.split(":")
+    if given.tone:
+        hz, level = given.tone.split(":")
         parts.append((int(hz), amplitude(float(level))))
     return [
         sum(scaled(size, sine(hz, n)) for hz, size in parts + mains(given.hum)) for n in range(count)
@@ -128,7 +128,7 @@ def mains(level):
 def peak_of(given):
     """Returns how much may be added to a sample."""
     hum = max(abs(sum(scaled(size, sine(hz, n)) for hz, size in mains(given.hum))) for n in range(400))
-    return given.noise_peak + hum + (amplitude(float(given.steady.split(":")[1])) if given.steady else 0)
+    return given.noise_peak + hum + (amplitude(float(given.tone.split(":")[1])) if given.tone else 0)
 
 
 def named(given, levels):
@@ -231,12 +231,12 @@ def attend():
     reader.add_argument("--skew", type=int, default=0)
     reader.add_argument("--hole", default="0@0")
     reader.add_argument("--phase", action="store_true")
-    reader.add_argument("--with", dest="steady")
+    reader.add_argument("--tone")
     reader.add_argument("--hum", type=float)
     reader.add_argument("--noise-peak", type=int, default=0)
     reader.add_argument("--seed", type=int, default=0)
     reader.add_argument("--clip", action="store_true")
-    reader.add_argument("--ulaw", action="store_true")
+    reader.add_argument("--format", choices=["wav", "wav-ulaw"], default="wav")
     reader.add_argument("--heard")
     given = reader.parse_args()
     if given.words is None:
@@ -246,7 +246,7 @@ def attend():
         clean = named(given, levels)
         summed = [it + more for it, more in zip(clean, all_through(given, len(clean)))]
         samples = noisy(summed, given.noise_peak, given.seed)
-    if given.ulaw:
+    if given.format == "wav-ulaw":
         with open(given.heard, "rb") as heard:
             made = mu_law_wav(samples, heard.read())
     else:

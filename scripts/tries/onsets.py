@@ -1,8 +1,9 @@
 """usage: scripts/tries/onsets.py LEAD OBJECTS [LINE] < SAMPLES
 
 Makes the sound of the entries of OBJECTS, as mflive --json tells them, or of those of a line: each keying at its time, by
-sines of its own, after LEAD ms, and at the standard times else. SAMPLES, which mftone --at --raw has written, have to be
-the same to the sample. It prints the lines that tell which entries the next one cuts. scripts/tries/sound calls it.
+sines of its own, after LEAD ms, and at the standard times else. SAMPLES, which mftone --timed --format s16 has written,
+have to be the same to the sample. It prints the lines that tell which entries the next one cuts. scripts/tries/sound
+calls it.
 """
 import json
 import struct

@@ -10,9 +10,9 @@ each thing that is missing, and the status is 1 where there is one.
 import re
 import sys
 
-NUMBER = r"(?<![\w.])\d+(?:\.\d+)?(?![\w])"
+NUMBER = r"(?<![\w.,:-])\d+(?:\.\d+)?(?![\w:-]|[.,]\d)"
 OPTION = r"--[a-z][a-z-]*"
-CHOICE = r": ([\w.]+(?: or [\w.]+)+)"
+CHOICE = r": ([\w.-]+(?: or [\w.-]+)+)"
 
 
 def of_help(text):

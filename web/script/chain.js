@@ -12,11 +12,11 @@ const REFUSALS = {
   4: 'the line is not 0 to 9999',
   5: 'the state is not M, B or C',
   6: 'the ms are not 0 to 86400000, or not 0 in a close',
-  22: 'the digit is not 0 to 9',
-  23: 'the record of the line has ended',
-  24: 'the line is seized already',
-  25: 'the line is not seized',
-  26: 'the digits complete no number',
+  19: 'the digit is not 0 to 9',
+  20: 'the record of the line has ended',
+  21: 'the line is seized already',
+  22: 'the line is not seized',
+  23: 'the digits complete no number',
 };
 
 const refusalOf = (status) => new Refused(REFUSALS[status] ?? `status ${status}`);
@@ -105,7 +105,7 @@ class Chain {
 
   // What becomes of a number that is dialled on no line: its marks, and the code of the route that decides it.
   route(number) {
-    if (!/^[0-9]*$/.test(number)) throw refusalOf(22);
+    if (!/^[0-9]*$/.test(number)) throw refusalOf(19);
     const { status, marks } = this.module.marksOfNumber(number);
     if (status) throw refusalOf(status);
     return { code: this.module.codeOf(number), marks: marks.map(markOf) };

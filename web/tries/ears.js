@@ -7,7 +7,7 @@ const { seeded } = require('./seeds.js');
 
 const MOST_NOISE = 277;
 const FILLED_AT = 624;      // how many samples of its window an ear has
-const NO_EAR = 21;
+const NO_EAR = 28;
 const NOT_BEGUN = 3;
 
 // The samples of a WAV file of 16 bits, whose header has 44 bytes.

@@ -1,20 +1,34 @@
 //! The program: words and a deck in, a status and a page out.
 #![tactic(auto)]
 
-use std::io;
+use std::io::{self, IsTerminal};
 use std::process::ExitCode;
-use xb_command::{Pipe, words_of_process};
-use xb_office::attend;
+use xb_command::{Call, Pipe, SystemFiles, words_of_process};
+use xb_office::{PROGRAM, attend_call};
 
-/// Reads the deck on standard input, and prints its page, or one line on standard error, as `attend`
-/// does.
+/// Does what the words ask for, as `attend_call` says, with the streams of the process.
 fn main(rt: HostRuntime) -> ExitCode {
-    let pipe = Pipe::default();
+    let (pipe, errors) = (Pipe::default(), rt.stderr());
     let (mut deck, mut page) = (rt.stdin(), pipe.output(io::writer(&rt)));
-    let mut err = pipe.errors(rt.stderr());
+    let mut err = pipe.errors(io::writer(&errors));
     match words_of_process(&rt) {
         Ok(words) => {
-            let status = attend(&rt, rt.alloc(), words, &mut deck, &mut page, &mut err);
+            let call = Call {
+                program: &PROGRAM,
+                words: &words,
+                is_typed: rt.stdin().is_terminal(),
+                is_shown: rt.stdout().is_terminal(),
+            };
+            let files = SystemFiles { rt: &rt };
+            let status = attend_call(
+                &rt,
+                rt.alloc(),
+                &call,
+                &files,
+                &mut deck,
+                &mut page,
+                &mut err,
+            );
             ExitCode::from(pipe.status(status))
         }
         Err(fault) => {

@@ -1,20 +1,26 @@
-//! The program: words and a recording of contacts in, a status and the lines of their digits out.
+//! The program: words and a recording in, a status and the lines of digits out.
 #![tactic(auto)]
 
-use std::io;
+use std::io::{self, IsTerminal};
 use std::process::ExitCode;
-use xb_bench::attend;
-use xb_command::{Pipe, words_of_process};
+use xb_bench::{PROGRAM, attend};
+use xb_command::{Call, Pipe, SystemFiles, words_of_process};
 
-/// Reads a recording on standard input, and prints what its digits say of the dial as it comes, or one line on standard
-/// error, as `attend` does.
+/// Does what the words ask for, as `attend` says, with the streams of the process.
 fn main(rt: HostRuntime) -> ExitCode {
     let (pipe, errors) = (Pipe::default(), rt.stderr());
-    let (mut recording, mut lines) = (rt.stdin(), pipe.output(io::writer(&rt)));
+    let (mut input, mut out) = (rt.stdin(), pipe.output(io::writer(&rt)));
     let mut err = pipe.errors(io::writer(&errors));
     match words_of_process(&rt) {
         Ok(words) => {
-            let status = attend(rt.alloc(), &words, &mut recording, &mut lines, &mut err);
+            let call = Call {
+                program: &PROGRAM,
+                words: &words,
+                is_typed: rt.stdin().is_terminal(),
+                is_shown: rt.stdout().is_terminal(),
+            };
+            let files = SystemFiles { rt: &rt };
+            let status = attend(rt.alloc(), &call, &files, &mut input, &mut out, &mut err);
             ExitCode::from(pipe.status(status))
         }
         Err(fault) => {

@@ -4,19 +4,9 @@ use Rattle.xb_structs.specs.declared.heard_signal.HeardSignal.{HeardSignal}
 use Rattle.xb_structs.specs.declared.line.PlainLine.{PlainLine}
 use Rattle.xb_structs.specs.declared.mark.PlainMark.{PlainMark}
 use Rattle.xb_structs.specs.declared.not_heard.NotHeard.{NotHeard}
-use Rattle.xb_structs.specs.declared.not_heard.NotHeard.TheVariants as why
 use Rattle.xb_structs.specs.declared.table.PlainTable.{PlainTable}
 use Rattle.xb_structs.specs.Hearing as hearing
-
--- the number of each refusal
-abbrev pub not_heard_status : NotHeard → ℕ
-not_heard_status why.NotOpened = 3
-not_heard_status why.Line = 4
-not_heard_status why.Room = 7
-not_heard_status why.Digit = 19
-not_heard_status why.Closed = 20
-not_heard_status why.Seized = 21
-not_heard_status why.NotSeized = 22
+use Rattle.xb_structs.specs.Status.{not_heard_status}
 
 -- it is heard, and its marks are in the room, which is no smaller than it was
 pub record IsHeard (table : PlainTable) (old new : PlainLine) (number : ℕ) (heard : HeardSignal) (room : List PlainMark) (count : ℕ) : Type 0 where

@@ -2,16 +2,9 @@
 use Rattle.std.specs.Prelude.{◌≡◌, ℕ, ◌≤◌, List, length}
 use Rattle.xb_structs.specs.declared.mark.PlainMark.{PlainMark}
 use Rattle.xb_structs.specs.declared.number.NotRouted.{NotRouted}
-use Rattle.xb_structs.specs.declared.number.NotRouted.TheVariants.{NotOpened, Digit, Incomplete, Room}
 use Rattle.xb_structs.specs.declared.table.PlainTable.{PlainTable}
 use Rattle.xb_structs.specs.Numbers as numbers
-
--- the status of each reason
-abbrev pub not_routed_status : NotRouted → ℕ
-not_routed_status NotOpened = 3
-not_routed_status Room = 7
-not_routed_status Digit = 19
-not_routed_status Incomplete = 23
+use Rattle.xb_structs.specs.Status.{not_routed_status}
 
 -- the marks of the number are in the room
 pub record IsRouted (table : PlainTable) (digits : List ℕ) (room : List PlainMark) (count : ℕ) : Type 0 where

@@ -3,25 +3,11 @@ ghost use Rattle.std.specs.Prelude.{◌≡◌, ◌≢◌, ◌≤◌, take};
 ghost use Rattle.xb_structs.specs.declared.heard_signal.HeardSignal.TheVariants as heard;
 ghost use Rattle.xb_structs.specs.Hearing.{digits_so_far};
 ghost use Rattle.xb_structs.specs.Lines.{register_in};
-ghost use Rattle.mfchain.specs.LineSignals.{IsNotHeard, IsHeard, not_heard_status};
+ghost use Rattle.mfchain.specs.LineSignals.{IsNotHeard, IsHeard};
 
-use xb_structs::{DONE, HeardSignal, NotHeard, PlainLine, PlainMark, PlainTable, dialled, hear};
-
-// The status of what is not heard.
-fn not_heard_status(why: NotHeard) -> u32
-    ensures value { result ≡ not_heard_status why }
-    ensures not_done { result ≢ 0 }
-{
-    match why {
-        NotHeard::NotOpened => 3,
-        NotHeard::Line => 4,
-        NotHeard::Room => 7,
-        NotHeard::Digit => 19,
-        NotHeard::Closed => 20,
-        NotHeard::Seized => 21,
-        NotHeard::NotSeized => 22,
-    }
-}
+use xb_structs::{
+    DONE, HeardSignal, PlainLine, PlainMark, PlainTable, dialled, hear, not_heard_status,
+};
 
 // Takes what was heard on a line as `hear` does, and answers by a status.
 fn hear_by_status(

@@ -1,21 +1,8 @@
 // What C asks of a number that is dialled on no line.
 ghost use Rattle.std.specs.Prelude.{◌≡◌, ◌≢◌};
-ghost use Rattle.mfchain.specs.Routed.{IsNotRouted, IsRouted, not_routed_status};
+ghost use Rattle.mfchain.specs.Routed.{IsNotRouted, IsRouted};
 
-use xb_structs::{DONE, NotRouted, PlainMark, PlainTable, route_number};
-
-// The status of a number that gets no keying.
-fn not_routed_status(why: NotRouted) -> u32
-    ensures value { result ≡ not_routed_status why }
-    ensures not_done { result ≢ 0 }
-{
-    match why {
-        NotRouted::NotOpened => 3,
-        NotRouted::Room => 7,
-        NotRouted::Digit => 19,
-        NotRouted::Incomplete => 23,
-    }
-}
+use xb_structs::{DONE, PlainMark, PlainTable, not_routed_status, route_number};
 
 /// The marks of the number that digits complete, on line 0: the first `count` of `room`. On any other status than 0
 /// the room is as it was, and `count` is 0.

@@ -1,20 +1,26 @@
 //! The program: words and a deck in, a status and the entries of its rows out.
 #![tactic(auto)]
 
-use std::io;
+use std::io::{self, IsTerminal};
 use std::process::ExitCode;
-use xb_command::{Pipe, words_of_process};
-use xb_live::attend;
+use xb_command::{Call, Pipe, SystemFiles, words_of_process};
+use xb_live::{PROGRAM, attend};
 
-/// Reads the deck on standard input as it comes, and writes its entries on standard output, or one line on
-/// standard error, as `attend` does.
+/// Does what the words ask for, as `attend` says, with the streams of the process.
 fn main(rt: HostRuntime) -> ExitCode {
     let (pipe, errors) = (Pipe::default(), rt.stderr());
-    let (mut deck, mut entries) = (rt.stdin(), pipe.output(io::writer(&rt)));
+    let (mut input, mut out) = (rt.stdin(), pipe.output(io::writer(&rt)));
     let mut err = pipe.errors(io::writer(&errors));
     match words_of_process(&rt) {
         Ok(words) => {
-            let status = attend(rt.alloc(), &words, &mut deck, &mut entries, &mut err);
+            let call = Call {
+                program: &PROGRAM,
+                words: &words,
+                is_typed: rt.stdin().is_terminal(),
+                is_shown: rt.stdout().is_terminal(),
+            };
+            let files = SystemFiles { rt: &rt };
+            let status = attend(rt.alloc(), &call, &files, &mut input, &mut out, &mut err);
             ExitCode::from(pipe.status(status))
         }
         Err(fault) => {

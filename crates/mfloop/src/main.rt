@@ -1,28 +1,26 @@
-//! The program: words and a recording of contacts in, a status and the loop rows of their lines out.
+//! The program: words and a recording in, a status and rows out.
 #![tactic(auto)]
 
-use std::io;
+use std::io::{self, IsTerminal};
 use std::process::ExitCode;
-use xb_command::{Pipe, SystemFiles, words_of_process};
-use xb_loop::attend;
+use xb_command::{Call, Pipe, SystemFiles, words_of_process};
+use xb_loop::{PROGRAM, attend};
 
-/// Reads a recording on standard input, and prints its loop rows as it comes, or one line on standard error,
-/// as `attend` does.
+/// Does what the words ask for, as `attend` says, with the streams of the process.
 fn main(rt: HostRuntime) -> ExitCode {
     let (pipe, errors) = (Pipe::default(), rt.stderr());
-    let (mut recording, mut rows) = (rt.stdin(), pipe.output(io::writer(&rt)));
+    let (mut input, mut out) = (rt.stdin(), pipe.output(io::writer(&rt)));
     let mut err = pipe.errors(io::writer(&errors));
-    let files = SystemFiles { rt: &rt };
     match words_of_process(&rt) {
         Ok(words) => {
-            let status = attend(
-                rt.alloc(),
-                &words,
-                &files,
-                &mut recording,
-                &mut rows,
-                &mut err,
-            );
+            let call = Call {
+                program: &PROGRAM,
+                words: &words,
+                is_typed: rt.stdin().is_terminal(),
+                is_shown: rt.stdout().is_terminal(),
+            };
+            let files = SystemFiles { rt: &rt };
+            let status = attend(rt.alloc(), &call, &files, &mut input, &mut out, &mut err);
             ExitCode::from(pipe.status(status))
         }
         Err(fault) => {

@@ -1,28 +1,26 @@
 //! The program: words, the file of a table and numbers in, a status and what is done with each number out.
 #![tactic(auto)]
 
-use std::io;
+use std::io::{self, IsTerminal};
 use std::process::ExitCode;
-use xb_command::{Pipe, SystemFiles, words_of_process};
-use xb_route::attend;
+use xb_command::{Call, Pipe, SystemFiles, words_of_process};
+use xb_route::{PROGRAM, attend};
 
-/// Reads the table in a file, and the numbers among the words or on standard input, and prints what is done
-/// with each number, or one line on standard error, as `attend` does.
+/// Does what the words ask for, as `attend` says, with the streams of the process.
 fn main(rt: HostRuntime) -> ExitCode {
     let (pipe, errors) = (Pipe::default(), rt.stderr());
-    let (mut numbers, mut lines) = (rt.stdin(), pipe.output(io::writer(&rt)));
+    let (mut input, mut out) = (rt.stdin(), pipe.output(io::writer(&rt)));
     let mut err = pipe.errors(io::writer(&errors));
-    let files = SystemFiles { rt: &rt };
     match words_of_process(&rt) {
         Ok(words) => {
-            let status = attend(
-                rt.alloc(),
-                &words,
-                &files,
-                &mut numbers,
-                &mut lines,
-                &mut err,
-            );
+            let call = Call {
+                program: &PROGRAM,
+                words: &words,
+                is_typed: rt.stdin().is_terminal(),
+                is_shown: rt.stdout().is_terminal(),
+            };
+            let files = SystemFiles { rt: &rt };
+            let status = attend(rt.alloc(), &call, &files, &mut input, &mut out, &mut err);
             ExitCode::from(pipe.status(status))
         }
         Err(fault) => {

@@ -1,26 +1,32 @@
 //! The program: words, a sound and the file of a page in, a status and what is heard out.
 #![tactic(auto)]
 
-use std::io::{self, BufReader};
+use std::io::{self, BufReader, IsTerminal};
 use std::process::ExitCode;
-use xb_command::{Pipe, SystemFiles, words_of_process};
-use xb_rx::attend;
+use xb_command::{Call, Pipe, SystemFiles, words_of_process};
+use xb_rx::{PROGRAM, attend};
 
-// Hears the sound on standard input.
+// Does what the words ask for, and gives the status of the process.
 fn run(rt: &HostRuntime) -> io::Result<u8> {
     let words = words_of_process(rt)?;
-    let mut sound = BufReader::new(rt.alloc(), rt.stdin())?;
+    let mut input = BufReader::new(rt.alloc(), rt.stdin())?;
     let (pipe, errors) = (Pipe::default(), rt.stderr());
-    let mut page = pipe.output(io::writer(rt));
-    let mut err = pipe.errors(io::writer(&errors));
+    let (mut out, mut err) = (
+        pipe.output(io::writer(rt)),
+        pipe.errors(io::writer(&errors)),
+    );
+    let call = Call {
+        program: &PROGRAM,
+        words: &words,
+        is_typed: rt.stdin().is_terminal(),
+        is_shown: rt.stdout().is_terminal(),
+    };
     let files = SystemFiles { rt };
-    let status = attend(rt.alloc(), &words, &files, &mut sound, &mut page, &mut err);
+    let status = attend(rt.alloc(), &call, &files, &mut input, &mut out, &mut err);
     Ok(pipe.status(status))
 }
 
-/// Reads the sound on standard input, and writes the page of its keyings on standard output, or its keys, or its
-/// differences from a page, and on standard error a line for each key that stands in no keying, or for a fault, as
-/// `attend` does.
+/// Does what the words ask for, as `attend` says, with the streams of the process.
 fn main(rt: HostRuntime) -> ExitCode {
     match run(&rt) {
         Ok(status) => ExitCode::from(status),

@@ -1,28 +1,28 @@
-//! The program: words, the file of a table and keys in, a status and the page of the office out.
+//! The program: words, the file of a table and keys in, a status and a page out.
 #![tactic(auto)]
 
-use std::io::{self, BufReader};
+use std::io::{self, IsTerminal};
 use std::process::ExitCode;
-use xb_command::{Pipe, SystemFiles, words_of_process};
-use xb_tandem::attend;
+use xb_command::{Call, Pipe, SystemFiles, words_of_process};
+use xb_tandem::{PROGRAM, attend};
 
-// Takes the keys on standard input.
-fn run(rt: &HostRuntime) -> io::Result<u8> {
-    let words = words_of_process(rt)?;
-    let mut keys = BufReader::new(rt.alloc(), rt.stdin())?;
-    let (pipe, errors) = (Pipe::default(), rt.stderr());
-    let mut page = pipe.output(io::writer(rt));
-    let mut err = pipe.errors(io::writer(&errors));
-    let files = SystemFiles { rt };
-    let status = attend(rt.alloc(), &words, &files, &mut keys, &mut page, &mut err);
-    Ok(pipe.status(status))
-}
-
-/// Reads the table in a file and the keys on standard input, and writes the page of the office on standard output, each
-/// entry with the key that makes it certain, or a fault as one line on standard error, as `attend` does.
+/// Does what the words ask for, as `attend` says, with the streams of the process.
 fn main(rt: HostRuntime) -> ExitCode {
-    match run(&rt) {
-        Ok(status) => ExitCode::from(status),
+    let (pipe, errors) = (Pipe::default(), rt.stderr());
+    let (mut input, mut out) = (rt.stdin(), pipe.output(io::writer(&rt)));
+    let mut err = pipe.errors(io::writer(&errors));
+    match words_of_process(&rt) {
+        Ok(words) => {
+            let call = Call {
+                program: &PROGRAM,
+                words: &words,
+                is_typed: rt.stdin().is_terminal(),
+                is_shown: rt.stdout().is_terminal(),
+            };
+            let files = SystemFiles { rt: &rt };
+            let status = attend(rt.alloc(), &call, &files, &mut input, &mut out, &mut err);
+            ExitCode::from(pipe.status(status))
+        }
         Err(fault) => {
             let _ = eprintln!(rt; "mftandem: {fault}");
             ExitCode::FAILURE

@@ -4,13 +4,12 @@ use Rattle.xb_model.specs.declared.digits.TheConstants.{NUMBER_DIGITS}
 use Rattle.xb_routes.specs.Table.{Table}
 use Rattle.xb_structs.specs.declared.mark.PlainMark.{PlainMark}
 use Rattle.xb_structs.specs.declared.printing.PrintFault.{PrintFault}
-use Rattle.xb_structs.specs.declared.printing.PrintFault.TheVariants as fault
 use Rattle.xb_structs.specs.declared.refusal.Refusal.TheVariants.{NotOpened}
 use Rattle.xb_structs.specs.declared.table.PlainTable.{PlainTable}
 use Rattle.xb_structs.specs.Deciding.{Decides}
 use Rattle.xb_structs.specs.Digits.{digits_in}
 use Rattle.xb_structs.specs.EntryLines.{IsNotPrinted, MayBeEntry, line_in}
-use Rattle.xb_structs.specs.Status.{refusal_status}
+use Rattle.xb_structs.specs.Status.{print_status, refusal_status}
 use Rattle.xb_structs.specs.Tables.{Holds, IsOpen}
 use Rattle.mfweb.specs.declared.status.TheConstants.{NO_CODE}
 
@@ -33,11 +32,6 @@ pub record FindsNoCode (plain : PlainTable) (digits : List ℕ) (count status : 
   pub why : (status ≡ NO_CODE) × HasNoCode plain digits
       ⊎ (status ≡ refusal_status NotOpened) × (IsOpen plain → ⊥)
   pub none : count ≡ 0
-
--- of an entry that is not printed
-abbrev pub print_status : PrintFault → ℕ
-print_status fault.Room = 7
-print_status fault.Marks = 19
 
 -- the line of the entry, but its LF, is in the room
 pub record PrintsEntry (line n : ℕ) (marks : List PlainMark) (room : List ℕ) (count : ℕ) : Type 0 where

@@ -5,12 +5,11 @@ use Rattle.xb_structs.specs.declared.heard_signal.HeardSignal.TheVariants as hea
 use Rattle.xb_structs.specs.declared.line.PlainLine.{PlainLine}
 use Rattle.xb_structs.specs.declared.mark.PlainMark.{PlainMark}
 use Rattle.xb_structs.specs.declared.not_heard.NotHeard.{NotHeard}
-use Rattle.xb_structs.specs.declared.not_heard.NotHeard.TheVariants as why
 use Rattle.xb_structs.specs.declared.number.NotRouted.{NotRouted}
-use Rattle.xb_structs.specs.declared.number.NotRouted.TheVariants as number
 use Rattle.xb_structs.specs.declared.table.PlainTable.{PlainTable}
 use Rattle.xb_structs.specs.Hearing.{Hears, IsNotHeard}
 use Rattle.xb_structs.specs.Numbers as numbers
+use Rattle.xb_structs.specs.Status.{not_heard_status, not_routed_status}
 
 -- what was heard, by its kind
 abbrev pub heard_in : ℕ → ℕ → HeardSignal
@@ -20,16 +19,6 @@ heard_in kind digit =
     else if kind == 2 then heard.MutilatedDigit
     else if kind == 3 then heard.TimeOut
     else heard.Release
-
--- the number of each refusal
-abbrev pub not_heard_status : NotHeard → ℕ
-not_heard_status why.NotOpened = 3
-not_heard_status why.Line = 4
-not_heard_status why.Room = 7
-not_heard_status why.Digit = 22
-not_heard_status why.Closed = 23
-not_heard_status why.Seized = 24
-not_heard_status why.NotSeized = 25
 
 -- it is heard, and its marks are in the room, which is no smaller than it was
 pub record IsTold (table : PlainTable) (old new : PlainLine) (line : ℕ) (heard : HeardSignal) (room : List PlainMark) (count : ℕ) : Type 0 where
@@ -44,13 +33,6 @@ pub record IsNotTold (table : PlainTable) (old new : PlainLine) (line : ℕ) (he
   pub none : count ≡ 0
   pub kept : new ≡ old
   pub same : given ≡ room
-
--- the number of each reason for which a number gets no keying
-abbrev pub not_routed_status : NotRouted → ℕ
-not_routed_status number.NotOpened = 3
-not_routed_status number.Room = 7
-not_routed_status number.Digit = 22
-not_routed_status number.Incomplete = 26
 
 -- the marks of the number are in the room
 pub record IsRouted (table : PlainTable) (digits : List ℕ) (room : List PlainMark) (count : ℕ) : Type 0 where

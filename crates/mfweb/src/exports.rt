@@ -11,13 +11,13 @@ ghost use Rattle.mfweb.specs.Calls.{Begins, DoesNotAdd, DoesNotBegin};
 ghost use Rattle.mfweb.specs.Calls.{cadence_of, limits_of, pair, words_of};
 ghost use Rattle.mfweb.specs.Showing.{DoesNotPrint, FindsCode, FindsNoCode, PrintsEntry, number_in};
 
-use crate::status::{NO_CODE, print_status};
+use crate::status::NO_CODE;
 use xb_model::{Limits, Tone};
 use xb_routes::RouteWords;
 use xb_sound::{Cadence, fill_tone};
 use xb_structs::{
     DONE, PlainMark, PlainTable, add, begin, deciding, fault_place, fault_status, print_entry,
-    refusal_status,
+    print_status, refusal_status,
 };
 
 /// The limits of a line's pulses, each in ms.
@@ -156,7 +156,7 @@ pub extern "C" fn mfweb_add(
 }
 
 /// How many of the digits of a number are the code that decides where a table sends it: status 0 and
-/// `length`; 20 and 0 where the digits begin with no code; 3 and 0 where the table is none that was begun. Ten
+/// `length`; 27 and 0 where the digits begin with no code; 3 and 0 where the table is none that was begun. Ten
 /// digits are read at most, and a byte over 9 is a 0.
 #[unsafe(no_mangle)]
 pub extern "C" fn mfweb_route(table: &PlainTable, digits: &[u8], length: &mut u32) -> u32

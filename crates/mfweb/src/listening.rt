@@ -67,7 +67,7 @@ pub extern "C" fn mfweb_ear(ear: &mut WebEar)
 
 /// Has an ear hear samples, 8,000 a second: the first `count` of `room` are the keys that they end. It takes samples
 /// while there is room for a key, and `taken` is how many; a room of one key for each 120 samples has been enough. On
-/// status 21, which says that it is no ear, all is as it was, and `taken` and `count` are 0.
+/// status 28, which says that it is no ear, all is as it was, and `taken` and `count` are 0.
 #[unsafe(no_mangle)]
 pub extern "C" fn mfweb_hear(
     ear: &mut WebEar,
@@ -93,7 +93,7 @@ pub extern "C" fn mfweb_hear(
 }
 
 /// The key that sounds where the samples of an ear end; of kind 0 where none does. The ear goes on as it was. On
-/// status 21, which says that it is no ear, the key is as it was.
+/// status 28, which says that it is no ear, the key is as it was.
 #[unsafe(no_mangle)]
 pub extern "C" fn mfweb_heard(ear: &WebEar, key: &mut WebHeard) -> u32
     ensures ends { result ≡ 0 → HasEnded ear.now key.new }

@@ -1,10 +1,10 @@
 // What is told of a line by a caller that hears it by itself, and a number that is dialled on no line.
 ghost use Rattle.std.specs.Prelude.{◌≡◌, ◌≢◌};
 ghost use Rattle.mfweb.specs.Told.{IsNotRouted, IsNotTold, IsRouted, IsTold, heard_in};
-ghost use Rattle.mfweb.specs.Told.{not_heard_status, not_routed_status};
 
 use xb_structs::{
-    DONE, HeardSignal, NotHeard, NotRouted, PlainLine, PlainMark, PlainTable, hear, route_number,
+    DONE, HeardSignal, PlainLine, PlainMark, PlainTable, hear, not_heard_status, not_routed_status,
+    route_number,
 };
 
 // What two numbers say that was heard.
@@ -17,35 +17,6 @@ fn heard_in(kind: u32, digit: u8) -> HeardSignal
         2 => HeardSignal::MutilatedDigit,
         3 => HeardSignal::TimeOut,
         _ => HeardSignal::Release,
-    }
-}
-
-// The status of what is not heard.
-fn not_heard_status(why: NotHeard) -> u32
-    ensures value { result ≡ not_heard_status why }
-    ensures not_done { result ≢ 0 }
-{
-    match why {
-        NotHeard::NotOpened => 3,
-        NotHeard::Line => 4,
-        NotHeard::Room => 7,
-        NotHeard::Digit => 22,
-        NotHeard::Closed => 23,
-        NotHeard::Seized => 24,
-        NotHeard::NotSeized => 25,
-    }
-}
-
-// The status of a number that gets no keying.
-fn not_routed_status(why: NotRouted) -> u32
-    ensures value { result ≡ not_routed_status why }
-    ensures not_done { result ≢ 0 }
-{
-    match why {
-        NotRouted::NotOpened => 3,
-        NotRouted::Room => 7,
-        NotRouted::Digit => 22,
-        NotRouted::Incomplete => 26,
     }
 }
 

@@ -1,4 +1,4 @@
-pub mod Attended
 pub mod Ended
 pub mod ObjectValues
 pub mod DrawnDigits
+pub mod Unfit

@@ -9,6 +9,5 @@ pub mod Benches
 pub mod Drawings
 pub mod Drawn
 pub mod DrawnLaws
-pub mod Rules
 pub mod Options
 pub mod Program

@@ -1,5 +1,5 @@
 -- The limits that words name.
-use Rattle.std.specs.Prelude.{ℕ, ◌-◌, ◌^◌, List, [], ◌∷◌, Option, Some, None, bytes_eq, codes, is_some, nat_le, option_map, unwrap_or, Result, Ok, Err, if◌then◌else◌}
+use Rattle.std.specs.Prelude.{ℕ, ◌-◌, ◌^◌, nat_lt, ◌||◌, ◌==◌, List, [], ◌∷◌, Option, Some, None, bytes_eq, codes, is_some, option_map, unwrap_or, Result, Ok, Err, if◌then◌else◌}
 use Rattle.std.specs.Option.{option_and_then}
 use Rattle.clap.specs.Walk.{Text}
 use Rattle.xb_contact.specs.Numbers.{number_of}
@@ -23,9 +23,9 @@ limit_named name =
     else (if bytes_eq name (codes "release") then Some Release
     else (if bytes_eq name (codes "timeout") then Some Timeout else None)))))
 
--- ms in digits alone, up to the greatest limit
+-- ms in digits alone, from 1 to the greatest limit
 abbrev pub up_to_greatest : ℕ → Option ℕ
-up_to_greatest ms = if nat_le ms GREATEST_LIMIT then Some ms else None
+up_to_greatest ms = if ms == 0 || nat_lt GREATEST_LIMIT ms then None else Some ms
 
 abbrev pub ms_said : Text → Option ℕ
 ms_said digits = option_and_then up_to_greatest (number_of digits)

@@ -1,18 +1,19 @@
 -- What the words of the command line ask for, as clap reads them.
-use Rattle.std.specs.Prelude.{◌≡◌, ◌≢◌, ◌⊎◌, ◌==◌, List, [], ◌∷◌, Bool, true, false, Option, Some, None, codes, length, nat_le, not, ◌&&◌}
-use Rattle.clap.specs.Faults.{fault_of}
-use Rattle.clap.specs.Simple.{matches_of}
-use Rattle.clap.specs.Walk.{Row, Text, first_of}
-use Rattle.xb_command.specs.Given.{IsTaken, ReadsFlag, given_by}
+use Rattle.std.specs.Prelude.{◌≡◌, ◌⊎◌, ◌==◌, List, [], ◌∷◌, Bool, true, false, Option, Some, None, codes, length, nat_le, not, ◌&&◌}
+use Rattle.clap.specs.Walk.{Row, first_of}
+use Rattle.xb_command.specs.Answers.{Takes}
+use Rattle.xb_command.specs.declared.asking.Misfit.{Misfit}
+use Rattle.xb_command.specs.declared.table.Call.{Call}
+use Rattle.xb_command.specs.Given.{ReadsFlag, given_by}
 use Rattle.xb_feed.specs.declared.manner.AskedLine.{AskedLine}
 use Rattle.xb_feed.specs.declared.manner.Manner.{Manner}
 use Rattle.xb_feed.specs.declared.request.Request.{Request}
-use Rattle.xb_feed.specs.Options.{Say as SaysOf, SayNothing as SaysNothingOf, plain_words}
+use Rattle.xb_feed.specs.Options.{Say as SaysOf, SayNothing as SaysNothingOf}
 use Rattle.xb_bench.specs.declared.setting.Form.{Form}
 use Rattle.xb_bench.specs.declared.setting.Form.TheVariants.{Lines, Objects, Page, Picture}
 use Rattle.xb_bench.specs.declared.setting.Setting.{Setting}
+use Rattle.xb_bench.specs.declared.words.Asked.{Asked}
 use Rattle.xb_bench.specs.LimitWords.{limits_said}
-use Rattle.xb_bench.specs.Rules.{command_of_words}
 use Rattle.xb_bench.specs.Windows.{windows_said}
 
 -- a line is listened to so that its digits can be told: its runs settle in 1 ms or more, and each make seizes
@@ -48,36 +49,40 @@ fits form lines = true
 abbrev pub can_tell : Form → List AskedLine → Bool
 can_tell form lines = are_plain lines && fits form lines
 
--- what clap matched says this: windows, limits, a form, and what is asked of a recording
-pub record Say (rows : List Row) (request : Request Setting) : Type 0 where
+-- what clap matched says these windows and limits, and this form
+pub record IsSetting (rows : List Row) (setting : Setting) : Type 0 where
   pub windows : windows_said (first_of (codes "dial") rows) (first_of (codes "speed") rows) (first_of (codes "share") rows)
-      ≡ Some request.common.windows
-  pub limits : limits_said (first_of (codes "limit") rows) ≡ Some request.common.limits
-  pub form : ReadsForm rows (Some request.common.form)
+      ≡ Some setting.windows
+  pub limits : limits_said (first_of (codes "limit") rows) ≡ Some setting.limits
+  pub form : ReadsForm rows (Some setting.form)
+
+-- and what is asked of a recording
+pub record Say (rows : List Row) (request : Request Setting) : Type 0 where
+  pub setting : IsSetting rows request.common
   pub fits : can_tell request.common.form request.lines.items ≡ true
   pub rest : SaysOf rows request.common request
 
--- what clap matched says nothing that there is: a window or a kind of dial that is none, limits that are none, two forms,
--- what a recording does not have, or a line that is listened to otherwise, or lines that the form does not have
-abbrev pub SayNothing : List Row → Type 0
-SayNothing rows =
+-- a window or a kind of dial that is none, limits that are none, or two forms
+abbrev pub SayNoSetting : List Row → Type 0
+SayNoSetting rows =
     (windows_said (first_of (codes "dial") rows) (first_of (codes "speed") rows) (first_of (codes "share") rows) ≡ None)
-    ⊎ ((limits_said (first_of (codes "limit") rows) ≡ None)
-    ⊎ (ReadsForm rows None
-    ⊎ (SaysNothingOf rows
+    ⊎ ((limits_said (first_of (codes "limit") rows) ≡ None) ⊎ ReadsForm rows None)
+
+-- what clap matched says nothing that there is: no such setting, what a recording does not have, or a line that is listened
+-- to otherwise, or lines that the form does not have
+abbrev pub SayNothing : List Row → Type 0
+SayNothing rows = SayNoSetting rows ⊎ (SaysNothingOf rows
     ⊎ ((request : Request Setting) × SaysOf rows request.common request
-    × ReadsForm rows (Some request.common.form) × (can_tell request.common.form request.lines.items ≡ false)))))
+    × ReadsForm rows (Some request.common.form) × (can_tell request.common.form request.lines.items ≡ false)))
 
--- clap takes plain words, and they ask for this
-abbrev pub AsksPlainly : List Text → Request Setting → Type 0
-AsksPlainly words request = IsTaken command_of_words words × Say (matches_of command_of_words words) request
+-- the words of a call are taken, and ask for this
+pub record Asks (call : Call) (asked : Asked) : Type 0 where
+  pub rows : List Row
+  pub takes : Takes call rows
+  pub says : Say rows asked.request
 
-abbrev pub Asks : List Text → Request Setting → Type 0
-Asks words request = AsksPlainly (plain_words words) request
-
--- clap refuses plain words, a request for help too, or they say nothing that there is
-abbrev pub ArePlainlyRefused : List Text → Type 0
-ArePlainlyRefused words = (fault_of command_of_words words ≢ []) ⊎ SayNothing (matches_of command_of_words words)
-
-abbrev pub AreRefused : List Text → Type 0
-AreRefused words = ArePlainlyRefused (plain_words words)
+-- they are taken, and say nothing that there is
+pub record AskNothing (call : Call) (misfit : Misfit) : Type 0 where
+  pub rows : List Row
+  pub takes : Takes call rows
+  pub says : SayNothing rows

@@ -1,9 +1,10 @@
 -- What the program did, by its status.
-use Rattle.std.specs.Prelude.{ℕ, ◌≡◌, ◌≢◌, ◌⊎◌, ◌++◌, List, [], codes, Option, Some, None}
+use Rattle.std.specs.Prelude.{ℕ, ◌≡◌, ◌≢◌, ◌⊎◌, List, [], Option, Some, None}
 use Rattle.std.specs.Io.KnownBytes.{Appends, Keeps}
-use Rattle.clap.specs.Walk.{Text}
-use Rattle.xb_command.specs.Programs.{Attends, Streams}
+use Rattle.xb_command.specs.Programs.{Streams}
 use Rattle.xb_command.specs.Telling.{Tells}
+use Rattle.xb_command.specs.Works.{Rules, file_source}
+use Rattle.xb_command.specs.declared.table.Program.{Program}
 use Rattle.xb_feed.specs.declared.fault.RecordingFault.{RecordingFault}
 use Rattle.xb_feed.specs.declared.fault.RecordingFault.TheVariants as recording
 use Rattle.xb_feed.specs.declared.request.Request.{Request}
@@ -11,27 +12,16 @@ use Rattle.xb_feed.specs.LackedWires.{missing_name}
 use Rattle.xb_feed.specs.Feeding.{FailsToListen, ListensTo}
 use Rattle.xb_recording.specs.Says.{names_in}
 use Rattle.xb_bench.specs.declared.fault.BenchFault.{BenchFault}
+use Rattle.xb_bench.specs.declared.words.Asked.{Asked}
 use Rattle.xb_bench.specs.declared.fault.BenchFault.TheVariants as faults
 use Rattle.xb_bench.specs.declared.setting.Setting.{Setting}
 use Rattle.xb_bench.specs.declared.setting.Form.{Form}
 use Rattle.xb_bench.specs.declared.setting.Form.TheVariants.{Lines, Objects, Page, Picture}
 use Rattle.xb_bench.specs.Benches.{by_digits}
 use Rattle.xb_bench.specs.Drawn.{by_plots}
-use Rattle.xb_bench.specs.Options.{AreRefused, Asks}
+use Rattle.xb_bench.specs.Options.{AskNothing, Asks}
 use Rattle.xb_bench.specs.Told.{first_text, last_text}
 use Rattle.xb_text.specs.Writing.{AppendsBeginning}
-
--- the program's name
-abbrev pub program : List ℕ
-program = codes "mfbench"
-
--- the line for words that are refused
-abbrev pub usage_line : List ℕ
-usage_line =
-    codes "mfbench: usage: mfbench --line N=WIRE[,inverted][,settle=MS]... "
-    ++ codes "[--dial bell|gpo] [--speed FROM-TO] [--share FROM-TO] [--limit NAME=MS[,NAME=MS]...] "
-    ++ codes "[--format vcd|sigrok|saleae|edges|gpiomon|bits|bits16|s16|wav] [--rate HZ] [--settle MS] "
-    ++ codes "[--threshold PERCENT] [--inverted] [--html|--json|--svg]\n"
 
 -- an output got what stands first, and then exactly what is told of the digits of the recording, or drawn of them
 abbrev pub PrintsBy : Form → List ℕ → Request Setting → Option (List ℕ) → Option (List ℕ) → Option (List ℕ) → Type 0
@@ -92,22 +82,23 @@ FailsToPrint request told input output after =
     ⊎ ((fault : RecordingFault) × IsFaultTold (names_in request.wanted) fault told
     × FailsToGo request fault input output after)
 
--- the words ask for something, and exactly that was written
-pub record WritesDigits (words : List Text) (old new : Streams) : Type 0 where
-  pub request : Request Setting
-  pub asks : Asks words request
+-- exactly what is asked for was written
+pub record WritesDigits (request : Request Setting) (old new : Streams) : Type 0 where
   pub digits : PrintsDigits request old.input old.output new.output
   pub errors : Keeps old.errors new.errors
 
--- the words ask for something that gave a fault, of which a line was told
-pub record HasFault (words : List Text) (old new : Streams) : Type 0 where
-  pub request : Request Setting
-  pub asks : Asks words request
+-- there was a fault, and a line says so
+pub record HasFault (request : Request Setting) (program : Program) (old new : Streams) : Type 0 where
   pub fault : BenchFault
   pub fails : FailsToPrint request fault old.input old.output new.output
-  pub told : Tells program None old.errors new.errors
+  pub told : Tells program.name.now None old.errors new.errors
 
--- what the program did with its words and its streams
-abbrev pub AttendsBench : List Text → Streams → Streams → ℕ → Type 0
-AttendsBench words old new status =
-    Attends program usage_line (WritesDigits words old new) (HasFault words old new) (AreRefused words) old new status
+-- what the words ask for, what is read, and what is done
+abbrev pub by_bench : Rules Asked
+by_bench = record {
+  Asks = Asks;
+  Misfits = AskNothing;
+  source = λ asked. file_source asked.request.recording;
+  Done = λ asked program bytes old new. WritesDigits asked.request old new;
+  Fails = λ asked program bytes old new. HasFault asked.request program old new;
+}

@@ -40,6 +40,13 @@ window_by parts =
 abbrev pub window_said : Text → Option Window
 window_said text = option_and_then window_by (cut_at 45 text)
 
+-- a window of the share of break, which is 100 % at most
+abbrev pub share_window : Window → Option Window
+share_window window = if nat_le window.most 1000 then Some window else None
+
+abbrev pub share_said : Text → Option Window
+share_said text = option_and_then share_window (window_said text)
+
 -- with a window of the speed, to which dials are adjusted as well, and one of the share of break, where these are said
 abbrev pub with_speed : Windows → Option Text → Option Windows
 with_speed windows None = Some windows
@@ -47,7 +54,7 @@ with_speed windows (Some text) = option_map (λ window. windows_of window window
 
 abbrev pub with_share : Windows → Option Text → Option Windows
 with_share windows None = Some windows
-with_share windows (Some text) = option_map (λ window. windows_of windows.adjust windows.accept window) (window_said text)
+with_share windows (Some text) = option_map (λ window. windows_of windows.adjust windows.accept window) (share_said text)
 
 abbrev pub windows_said : Option Text → Option Text → Option Text → Option Windows
 windows_said dial speed share =

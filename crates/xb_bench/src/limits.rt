@@ -73,12 +73,12 @@ fn limit_named(name: &[u8]) -> Option<Limit>
     }
 }
 
-// The ms that digits write, up to the greatest limit.
+// The ms that digits write, from 1 to the greatest limit.
 fn ms_said(digits: &[u8]) -> Option<u32>
     ensures { result ≡ ms_said digits.now }
 {
     let ms = number_of(digits)?;
-    if ms > u64::from(GREATEST_LIMIT) {
+    if ms == 0 || ms > u64::from(GREATEST_LIMIT) {
         return None;
     }
     Some(ms as u32)
@@ -187,4 +187,16 @@ pub(crate) fn limits_said(text: Option<&str>) -> Option<Limits>
         return Some(bench_limits());
     };
     limits_after(text.as_bytes())?.limits()
+}
+
+/// Why a word says no limits.
+pub(crate) fn reason_against(text: &str) -> &'static str {
+    match limits_after(text.as_bytes()) {
+        Some(_) => {
+            "pulse_min is at most pulse_max, and that under release; make_min is at most pause, and that under timeout"
+        }
+        None => {
+            "each is NAME=MS, a whole number of 1 to 1000000, and none stands twice: pulse_min, pulse_max, make_min, pause, release, timeout"
+        }
+    }
 }

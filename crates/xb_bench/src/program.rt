@@ -1,33 +1,28 @@
 // The program: its words and a recording in, a status and the lines of digits out.
-ghost use Rattle.std.specs.Prelude.{IfErr, List, [], OnOk, map, ℕ};
+ghost use Rattle.std.specs.Prelude.{◌≡◌, IfErr, List, [], OnOk, map, true, ℕ};
 ghost use Rattle.xb_feed.specs.Feeding.{FailsToListen, ListensTo};
 ghost use Rattle.xb_bench.specs.Benches.{by_digits};
 ghost use Rattle.xb_bench.specs.Drawn.{by_plots};
 ghost use Rattle.xb_command.specs.Programs.{streams};
-ghost use Rattle.xb_command.specs.Commands.{texts_of};
-ghost use Rattle.xb_bench.specs.Program.{AttendsBench, FailsBy, FailsToPrint, FailsWhole, IsFaultTold, PrintsBy};
-ghost use Rattle.xb_bench.specs.Program.{PrintsDigits, PrintsWhole};
+ghost use Rattle.xb_command.specs.Tables.{command_by};
+ghost use Rattle.xb_command.specs.Works.{AttendsBy};
+ghost use Rattle.clap.specs.Faults.{is_simple_and_free};
+ghost use Rattle.xb_bench.specs.Program.{FailsBy, FailsToPrint, FailsWhole, IsFaultTold, PrintsBy};
+ghost use Rattle.xb_bench.specs.Program.{PrintsDigits, PrintsWhole, by_bench};
 
 use crate::bench::Bench;
 use crate::drawn::DrawnBench;
 use crate::fault::BenchFault;
 use crate::setting::{Form, Setting};
 use crate::told::{first_text, last_text};
-use crate::words::request_of_words;
+use crate::words::{Asked, asked_of};
 use std::alloc::Global;
 use std::io::{Read, Write};
-use xb_command::{DONE, WordsFault, tell_fault, tell_words};
-use xb_feed::{RecordingFault, Request, listen, missing_name, plain_words};
+use xb_command::{
+    Answer, Call, DONE, Files, Program, Source, Work, ask_words, file_source, tell_fault,
+};
+use xb_feed::{RecordingFault, Request, listen, missing_name};
 use xb_text::write_whole;
-
-// The program's name.
-pub(crate) const PROGRAM: &str = "mfbench";
-
-// The line of refused words.
-const USAGE: &[u8] = b"mfbench: usage: mfbench --line N=WIRE[,inverted][,settle=MS]... \
-[--dial bell|gpo] [--speed FROM-TO] [--share FROM-TO] [--limit NAME=MS[,NAME=MS]...] \
-[--format vcd|sigrok|saleae|edges|gpiomon|bits|bits16|s16|wav] [--rate HZ] [--settle MS] \
-[--threshold PERCENT] [--inverted] [--html|--json|--svg]\n";
 
 // The fault of a recording as it is told; where it lacks a wire, with the first name that is asked for and that it lacks.
 fn fault_told<'a>(fault: RecordingFault, names: &[&'a str]) -> BenchFault<'a>
@@ -115,7 +110,7 @@ fn print_whole<R: Read, W: Write>(
 }
 
 // Writes what stands first, what is told of the digits of a recording, and what stands last.
-fn run<'a, R: Read, W: Write>(
+fn print<'a, R: Read, W: Write>(
     alloc: Global,
     request: Request<'a, Setting>,
     recording: &mut R,
@@ -145,36 +140,53 @@ fn run<'a, R: Read, W: Write>(
     }
 }
 
-/// Reads the words of the command line, the program's name first, and by them writes the lines of the digits of a
-/// recording as it comes, after the windows by which they are judged, or where it ends their plots. It returns the status
-/// of the process:
-///
-/// - `DONE`: the words ask for something, and `out` got exactly these lines;
-/// - `FAULT`: the recording has a fault, which `listen` of `xb_feed` has, or memory ran out; `err` gets the fault as one
-///   line, and `out` got the lines before it, or nothing;
-/// - `WORDS_REFUSED`: the words are refused, or ask for help; `err` gets the usage as one line, the recording is not
-///   read and `out` got nothing.
-///
-/// A fault in writing to `err` changes no status.
-pub fn attend<R: Read, W: Write, E: Write>(
+impl<'a> Work<'a> for Asked<'a> {
+    ghost use Rattle.xb_bench.specs.Program.{by_bench};
+
+    ghost rules = { by_bench };
+
+    fn ask(alloc: Global, call: &Call<'a>) -> Result<Asked<'a>, Answer<'a>> {
+        match ask_words(alloc, call) {
+            Ok(words) => asked_of(alloc, &words),
+            Err(answer) => Err(answer),
+        }
+    }
+
+    fn source(&self) -> Source<'a> {
+        file_source(self.request.recording)
+    }
+
+    fn run<F: Files, R: Read, W: Write, E: Write>(
+        self,
+        alloc: Global,
+        program: &Program<'a>,
+        _files: &F,
+        input: &mut R,
+        out: &mut W,
+        err: &mut E,
+    ) -> u8 {
+        match print(alloc, self.request, input, out) {
+            Ok(()) => DONE,
+            Err(fault) => tell_fault(alloc, err, program.name, fault),
+        }
+    }
+}
+
+/// Reads the words of the command line, and by them writes the lines of the digits of a recording as it comes, after the
+/// windows by which they are judged, or where it ends their plots. It returns the status of the process, as `attend` of
+/// `xb_command` says.
+pub fn attend<F: Files, R: Read, W: Write, E: Write>(
     alloc: Global,
-    words: &[String],
-    recording: &mut R,
+    call: &Call<'_>,
+    files: &F,
+    input: &mut R,
     out: &mut W,
     err: &mut E,
 ) -> u8
-    ensures { AttendsBench (texts_of words.now)
-        (streams (R.remaining recording.old) (W.contents out.old) (E.contents err.old))
-        (streams (R.remaining recording.new) (W.contents out.new) (E.contents err.new)) result }
+    requires { is_simple_and_free (command_by call.now.program.now) ≡ true }
+    ensures { AttendsBy by_bench call.now (F.bytes files.now)
+        (streams (R.remaining input.old) (W.contents out.old) (E.contents err.old))
+        (streams (R.remaining input.new) (W.contents out.new) (E.contents err.new)) result }
 {
-    let Ok(words) = plain_words(alloc, words) else {
-        return tell_words(err, PROGRAM, USAGE, WordsFault::NoMemory);
-    };
-    match request_of_words(alloc, &words) {
-        Ok(request) => match run(alloc, request, recording, out) {
-            Ok(()) => DONE,
-            Err(fault) => tell_fault(alloc, err, PROGRAM, fault),
-        },
-        Err(fault) => tell_words(err, PROGRAM, USAGE, fault),
-    }
+    xb_command::attend::<Asked<'_>, F, R, W, E>(alloc, call, files, input, out, err)
 }

@@ -1,6 +1,6 @@
 // The windows that words name.
 ghost use Rattle.std.specs.Prelude.{◌≡◌, ◌++◌, IfOk, OnOk, option_map, string_bytes};
-ghost use Rattle.xb_bench.specs.Windows.{dial_named, header_text, window_said, window_text, windows_said, with_speed};
+ghost use Rattle.xb_bench.specs.Windows.{dial_named, header_text, share_said, window_said, window_text, windows_said, with_speed};
 ghost use Rattle.xb_bench.specs.Windows.{windows_text, with_share};
 
 use std::alloc::{AllocError, Global};
@@ -67,6 +67,29 @@ fn window_said(text: &[u8]) -> Option<Window>
     }
 }
 
+// The greatest share of break, in tenths of a percent.
+const MOST_SHARE: u64 = 1_000;
+
+// A window of the share of break, as 58-64; `None` where it is none.
+fn share_said(text: &[u8]) -> Option<Window>
+    ensures { result ≡ share_said text.now }
+{
+    let window = window_said(text)?;
+    if window.most <= MOST_SHARE {
+        Some(window)
+    } else {
+        None
+    }
+}
+
+/// Whether a text is no window.
+pub(crate) fn is_no_window(text: Option<&str>) -> bool {
+    match text {
+        Some(text) => window_said(text.as_bytes()).is_none(),
+        None => false,
+    }
+}
+
 // With this window of the speed, to which dials are adjusted as well, where one is said.
 fn with_speed(windows: Windows, text: Option<&str>) -> Option<Windows>
     ensures { result ≡ with_speed windows (option_map (λ text. text.now) text.entry) }
@@ -89,7 +112,7 @@ fn with_share(windows: Windows, text: Option<&str>) -> Option<Windows>
     let Some(text) = text else {
         return Some(windows);
     };
-    let share = window_said(text.as_bytes())?;
+    let share = share_said(text.as_bytes())?;
     Some(Windows { share, ..windows })
 }
 

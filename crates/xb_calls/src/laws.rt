@@ -1,6 +1,9 @@
 //! What the definitions give: each law is the contract of a function that does nothing.
 ghost use Rattle.xb_calls.specs.Heard.{DialledIsHeard, OrdersAreDialled};
 ghost use Rattle.xb_calls.specs.WorkedCalls.{BothOrders, CallsOfTexts, NumbersOfCalls, RowsOfCalls};
+ghost use Rattle.std.specs.Prelude.{◌≡◌};
+ghost use Rattle.xb_calls.specs.declared.reading.TheConstants.{MOST_TEXT_BYTES};
+ghost use Rattle.xb_calls.specs.declared.told.TheConstants.{MOST_TOLD_BYTES};
 
 /// The rows of some calls, and the numbers that are heard of them.
 #[tactic(auto, unfolding(crate::specs::Dialling::pulses, xb_model::specs::WorkedRows::pulses, xb_model::specs::WorkedRows::dial))]
@@ -32,4 +35,10 @@ pub fn dialled_is_heard()
 #[tactic(auto, using(crate::proofs::RowsOfLines::orders_are_dialled))]
 pub fn orders_are_dialled()
     ensures { OrdersAreDialled }
+{}
+
+/// How many bytes the text of calls has at most, and of how many a field is told.
+pub fn constants()
+    ensures most_text_bytes { MOST_TEXT_BYTES ≡ 16777216 }
+    ensures most_told_bytes { MOST_TOLD_BYTES ≡ 40 }
 {}

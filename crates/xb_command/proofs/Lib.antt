@@ -1,3 +1,1 @@
 pub mod AnswersTold
-pub mod Asked
-pub mod WordsTold

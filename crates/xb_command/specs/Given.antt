@@ -1,8 +1,8 @@
 -- What words give, as clap reads them.
-use Rattle.std.specs.Prelude.{ℕ, ◌≡◌, ◌≢◌, ◌⊎◌, ◌<◌, ◌^◌, List, [], Bool, true, false, Option, Some, None, SomeIff, codes}
+use Rattle.std.specs.Prelude.{ℕ, ◌≡◌, ◌<◌, ◌^◌, List, [], Bool, true, false, Option, Some, None, SomeIff, codes}
 use Rattle.std.specs.Str.Parse.{IsNumeral, digits_value, without_leading_plus}
 use Rattle.clap.specs.Faults.{fault_of}
-use Rattle.clap.specs.Simple.{App, matches_of}
+use Rattle.clap.specs.Simple.{App}
 use Rattle.clap.specs.Walk.{Row, Text, one_of}
 
 -- the text that an option was given
@@ -26,13 +26,3 @@ pub record ReadsFlag (text : Option Text) (given : Bool) : Type 0 where
 -- clap takes the words
 abbrev pub IsTaken : App → List Text → Type 0
 IsTaken command words = fault_of command words ≡ []
-
--- clap takes the words, and what it matched says options that ask for this
-abbrev pub AsksFor : {O Q : Type 0} → App → (List Row → O → Type 0) → (O → Option Q) → List Text → Q → Type 0
-AsksFor {O} {Q} command Say asked words request = IsTaken command words
-    × ((options : O) × Say (matches_of command words) options × (asked options ≡ Some request))
-
--- clap refuses the words, a request for help too, or what it matched says options that ask for nothing
-abbrev pub AskForNothing : {O Q : Type 0} → App → (List Row → O → Type 0) → (O → Option Q) → List Text → Type 0
-AskForNothing {O} {Q} command Say asked words = (fault_of command words ≢ [])
-    ⊎ ((options : O) × Say (matches_of command words) options × (asked options ≡ None))

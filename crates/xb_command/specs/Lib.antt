@@ -9,5 +9,4 @@ pub mod Programs
 pub mod Tables
 pub mod Telling
 pub mod Usage
-pub mod Usages
 pub mod Works

@@ -1,9 +1,6 @@
 -- What a program tells on its stream of errors.
 use Rattle.std.specs.Prelude.{ℕ, ◌≡◌, ◌⊎◌, ◌++◌, List, codes, Option, Some, IfSome}
 use Rattle.xb_text.specs.Writing.{AppendsBeginning}
-use Rattle.xb_command.specs.declared.telling.TheConstants.{FAULT, WORDS_REFUSED}
-use Rattle.xb_command.specs.declared.telling.WordsFault.{WordsFault}
-use Rattle.xb_command.specs.declared.telling.WordsFault.TheVariants.{NoMemory, Refused}
 
 -- a text as a line, after the program's name
 abbrev pub line_of : List ℕ → List ℕ → List ℕ
@@ -23,11 +20,3 @@ abbrev pub Tells : List ℕ → Option (List ℕ) → Option (List ℕ) → Opti
 Tells program shown old new = (line : List ℕ)
     × (IsLineOf program shown line ⊎ IsLineOf program (Some (codes "out of memory")) line)
     × AppendsBeginning old new line
-
--- what is told of words that choose nothing, and the status
-abbrev pub TellsOfWords :
-    List ℕ → List ℕ → WordsFault → Option (List ℕ) → Option (List ℕ) → ℕ → Type 0
-TellsOfWords program usage Refused old new status =
-    (status ≡ WORDS_REFUSED) × AppendsBeginning old new usage
-TellsOfWords program usage NoMemory old new status =
-    (status ≡ FAULT) × AppendsBeginning old new (no_memory_line program)

@@ -1,6 +1,6 @@
 // What a program tells: one line on its stream of errors, and the status of the process.
 ghost use Rattle.std.specs.Prelude.{◌≡◌, IfOk, string_bytes};
-ghost use Rattle.xb_command.specs.Telling.{IsLineOf, Tells, TellsOfWords, line_of, no_memory_line};
+ghost use Rattle.xb_command.specs.Telling.{IsLineOf, Tells, line_of, no_memory_line};
 ghost use Rattle.xb_text.specs.Writing.{AppendsBeginning};
 
 use std::alloc::{AllocError, Global};
@@ -14,17 +14,8 @@ pub const DONE: u8 = 0;
 /// The status of a fault.
 pub const FAULT: u8 = 1;
 
-/// The status of words that are refused, a request for help too.
+/// The status of words that are refused.
 pub const WORDS_REFUSED: u8 = 2;
-
-/// Why the words of a command line choose nothing.
-#[derive(Clone, Copy, Debug, PartialEq, Eq)]
-pub enum WordsFault {
-    /// They are refused, a request for help too.
-    Refused,
-    /// Memory ran out.
-    NoMemory,
-}
 
 // A text as a line, after the program's name.
 fn line_of_text(alloc: Global, program: &str, text: &str) -> Result<String, AllocError>
@@ -73,27 +64,4 @@ pub fn tell_fault<E: Write, F: Display + Drop>(
         Err(_) => tell_no_memory(err, program),
     }
     FAULT
-}
-
-// Writes the line of refused words, which is how the program is called, as far as it can be written.
-fn refuse<E: Write>(err: &mut E, usage: &[u8]) -> u8
-    ensures status { result ≡ WORDS_REFUSED }
-    ensures line { AppendsBeginning (E.contents err.old) (E.contents err.new) usage.now }
-{
-    let _ = write_whole(err, usage);
-    WORDS_REFUSED
-}
-
-/// Tells in one line why the words choose nothing, how the program is called or that memory ran out, as
-/// far as it can be written, and returns the status.
-pub fn tell_words<E: Write>(err: &mut E, program: &str, usage: &[u8], fault: WordsFault) -> u8
-    ensures { TellsOfWords program.now usage.now fault (E.contents err.old) (E.contents err.new) result }
-{
-    match fault {
-        WordsFault::Refused => refuse(err, usage),
-        WordsFault::NoMemory => {
-            tell_no_memory(err, program);
-            FAULT
-        }
-    }
 }

@@ -86,6 +86,38 @@ fn given_with_equals(alloc: Global, words: &[String]) -> Result<String, AllocErr
     }
 }
 
+// The name of the option that a word is where a dash more stands before it, as `ring` of `-ring`.
+fn name_after_dash<'a>(program: &Program<'a>, words: &[String]) -> Option<&'a str> {
+    let [.., word] = words else {
+        return None;
+    };
+    let name = word.strip_prefix('-')?;
+    for option in program.words {
+        if option.name == name {
+            return Some(option.name);
+        }
+    }
+    None
+}
+
+// Whether a word is letters after one dash, of which clap names the first alone.
+fn is_letters(word: &str) -> bool {
+    match word.strip_prefix('-') {
+        Some(letters) => !letters.starts_with('-') && letters.len() > 1,
+        None => false,
+    }
+}
+
+// A message about the last of these words, which it names whole.
+fn with_whole_word(alloc: Global, words: &[String], message: &str) -> Result<String, AllocError> {
+    match words {
+        [.., word] if message.starts_with("unexpected argument '-") && is_letters(word) => {
+            format!(in alloc; "unexpected argument '{word}' found")
+        }
+        _ => message.to_string(alloc),
+    }
+}
+
 // The name that may be meant, if clap knows one.
 fn similar_name(tips: &str) -> Option<&str> {
     let tip = tips.trim_start().strip_prefix("tip: a similar ")?;
@@ -98,12 +130,16 @@ fn similar_name(tips: &str) -> Option<&str> {
 // What helps beside a message about the last of these words: how a value below 0 is given, or the name that may be meant.
 fn help_beside(
     alloc: Global,
+    program: &Program<'_>,
     words: &[String],
     message: &str,
     tips: &str,
 ) -> Result<String, AllocError> {
     if is_of_negative(message) {
         return given_with_equals(alloc, words);
+    }
+    if let Some(name) = name_after_dash(program, words) {
+        return format!(in alloc; "; a similar argument exists: '--{name}'");
     }
     match similar_name(tips) {
         Some(name) => format!(in alloc; "; a similar {name}"),
@@ -122,9 +158,10 @@ pub(crate) fn reason_of(
 {
     let text = message.strip_prefix("error: ").unwrap_or(message);
     let (first, tips) = text.split_once("\n\n").unwrap_or((text.trim_end(), ""));
-    let plain = in_plain_words(alloc, first)?;
-    let range = range_in(alloc, program, first)?;
-    let help = help_beside(alloc, words, first, tips)?;
-    let whole = format!(in alloc; "{plain}{range}{help}")?;
-    line_of(alloc, whole.as_bytes())
+    let whole = with_whole_word(alloc, words, first)?;
+    let plain = in_plain_words(alloc, &whole)?;
+    let range = range_in(alloc, program, &whole)?;
+    let help = help_beside(alloc, program, words, &whole, tips)?;
+    let line = format!(in alloc; "{plain}{range}{help}")?;
+    line_of(alloc, line.as_bytes())
 }

@@ -4,8 +4,8 @@ use Rattle.xb_text.specs.declared.reading.ReadFault.{ReadFault}
 use Rattle.xb_text.specs.declared.reading.ReadFault.TheVariants as read_fault
 use Rattle.xb_calls.specs.declared.fault.CallFault.{CallFault}
 use Rattle.xb_calls.specs.declared.fault.CallFault.TheVariants as call_fault
-use Rattle.xb_trace.specs.declared.fault.TraceFault.{TraceFault}
-use Rattle.xb_trace.specs.declared.fault.TraceFault.TheVariants as trace_fault
+use Rattle.xb_dial.specs.declared.trace_fault.TraceFault.{TraceFault}
+use Rattle.xb_dial.specs.declared.trace_fault.TraceFault.TheVariants as trace_fault
 use Rattle.xb_worn.specs.declared.worn_fault.WornFault.{WornFault}
 use Rattle.xb_worn.specs.declared.worn_fault.WornFault.TheVariants as worn_fault
 use Rattle.xb_dial.specs.declared.fault.DialFault.{DialFault}

@@ -1,3 +1,8 @@
+pub mod Runs
+pub mod Drawn
+pub mod Traces
+pub mod TraceLaws
+pub mod WorkedTrace
 pub mod FaultWords
 pub mod Faults
 pub mod Options

@@ -12,7 +12,7 @@ use Rattle.xb_model.specs.Plans.{plan_of_digits}
 use Rattle.xb_calls.specs.declared.order.RowOrder.TheVariants.{ByLine, InTurn}
 use Rattle.xb_calls.specs.declared.speed.Speed.{Speed}
 use Rattle.xb_calls.specs.Speeds.{speed_of, ten_pulses_a_second, twenty_pulses_a_second}
-use Rattle.xb_trace.specs.declared.bouncing.Bouncing.{Bouncing}
+use Rattle.xb_dial.specs.declared.bouncing.Bouncing.{Bouncing}
 use Rattle.xb_worn.specs.declared.wear.Wear.{Wear}
 use Rattle.xb_dial.specs.declared.request.Asked.{Asked}
 use Rattle.xb_dial.specs.declared.request.Form.{Form}
@@ -35,10 +35,10 @@ pub record SayOptions (rows : List Row) (options : Options) : Type 0 where
   pub bounce : ReadsNumber (given_by rows (codes "bounce")) options.bounce
   pub seed : ReadsNumber (given_by rows (codes "seed")) options.seed
   pub plan : ReadsNumber (given_by rows (codes "plan")) options.plan
-  pub beyond : ReadsFlag (given_by rows (codes "beyond")) options.beyond
+  pub beyond : ReadsFlag (given_by rows (codes "out-of-limits")) options.beyond
   pub vcd : ReadsFlag (given_by rows (codes "vcd")) options.vcd
   pub in_turn : ReadsFlag (given_by rows (codes "in-turn")) options.in_turn
-  pub any : ReadsFlag (given_by rows (codes "any")) options.any
+  pub any : ReadsFlag (given_by rows (codes "incomplete")) options.any
 
 abbrev pub standard_speed : ℕ → Option Speed
 standard_speed pulses =

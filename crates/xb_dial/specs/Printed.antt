@@ -14,8 +14,8 @@ use Rattle.xb_calls.specs.Heard.{AreHeard, AreKeyed}
 use Rattle.xb_calls.specs.declared.speed.SpeedFault.{SpeedFault}
 use Rattle.xb_calls.specs.Speeds.{Fits, IsFirstMisfit}
 use Rattle.xb_text.specs.Writing.{AppendsBeginning}
-use Rattle.xb_trace.specs.Runs.{us_in}
-use Rattle.xb_trace.specs.Traces.{trace_text}
+use Rattle.xb_dial.specs.Runs.{us_in}
+use Rattle.xb_dial.specs.Traces.{trace_text}
 use Rattle.xb_worn.specs.Places.{ArePlaced}
 use Rattle.xb_worn.specs.Sending.{sent}
 use Rattle.xb_worn.specs.Unworn.{IsUnworn}

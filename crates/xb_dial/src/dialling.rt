@@ -4,19 +4,19 @@ ghost use Rattle.std.specs.Io.KnownBytes.{Appends, Keeps};
 ghost use Rattle.xb_text.specs.Writing.{AppendsBeginning};
 ghost use Rattle.xb_calls.specs.declared.reading.TheConstants.{MOST_TEXT_BYTES};
 ghost use Rattle.xb_rows.specs.WrittenRows.{text_of_rows};
-ghost use Rattle.xb_trace.specs.Traces.{trace_text};
+ghost use Rattle.xb_dial.specs.Traces.{trace_text};
 ghost use Rattle.xb_dial.specs.declared.request.Form.TheVariants as forms;
 ghost use Rattle.xb_dial.specs.Printed.{Delivers, IsFaultOfCalls, IsFaultOfPrinting, IsOfSpeed, IsReadBack, JudgesSpeed, Sends, WhereWritten, are_of_one_line, are_on, can_print, is_on, printed_of};
 
 use crate::fault::DialFault;
 use crate::request::{Form, Manner, Request};
+use crate::{Bouncing, write_trace};
 use std::alloc::Global;
 use std::io::{Read, Write};
 use xb_calls::{Call, MOST_TEXT_BYTES, calls_of_text};
 use xb_model::{Limits, LineNo, Row};
 use xb_rows::text_of_rows;
 use xb_text::{read_whole, write_whole};
-use xb_trace::{Bouncing, write_trace};
 use xb_worn::rows_of_worn_calls;
 
 // Judges the speed to which the dial is adjusted, unless any is taken.

@@ -1,12 +1,12 @@
 // Why no rows are printed.
 ghost use Rattle.std.specs.Prelude.{◌≡◌};
 
+use crate::TraceFault;
 use std::alloc::AllocError;
 use thiserror::Error;
 use xb_calls::{CallFault, SpeedFault};
 use xb_model::RowFault;
 use xb_text::{ReadFault, WriteFault};
-use xb_trace::TraceFault;
 use xb_worn::WornFault;
 
 /// Why no rows are printed: the first of these, in this order. Running out of memory is always

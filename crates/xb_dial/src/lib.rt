@@ -10,17 +10,45 @@
 //!   the request (`IsFaultOfCalls`). Unless any speed is taken, the speed is judged before the calls: every
 //!   result but a fault of the speed comes only of one that fits the standard limits.
 //! - `attend`: `AttendsBy` of this, beginning at the words as they are typed.
+//!
+//! The loop contact of a line as a logic analyser records it: rows of makes and breaks written as a value change dump,
+//! with the bounces that a seed draws.
+//!
+//! - `write_trace` (`trace_text`): on `Ok` the writer got exactly the text of the contact's changes; on `Write` the
+//!   beginning of it, and on any other fault nothing. `TooLong` comes only where the recording would end at 2^64 - 1 us
+//!   or later. It holds the runs of the rows, and one change of text at a time.
+//! - The contact is open for a second, does what the rows say, and is open for a second more (`runs_in`): rows of one
+//!   contact that follow each other are one run, and a row of 0 ms is none.
+//! - `Bouncing`: each run but the first begins with up to four bounces, which a seed draws (`Drawn`). They end within
+//!   its first `us` us, and a run that does not last longer has none. Its end stays where it is.
+//! - `laws::traces_are_read`: the text is read back as these changes, whatever the rows are.
+//! - `laws::traces_keep_runs`: the bounces disturb the runs of the rows, and take no time of them.
+//! - `laws::traces_settle`: settled, nothing is left of the bounces. The runs are those of the rows, in us and in ms.
+//! - `laws::worked_trace`: a trace that was worked out by another program.
+//!
+//! Not said: how much memory a run takes.
 #![tactic(auto)]
 
+mod bouncing;
+mod change;
 mod dialling;
 mod fault;
 mod fault_words;
+pub mod laws;
 mod program;
 mod request;
+mod run;
+mod runs;
+mod trace_fault;
 mod words;
+mod writing;
 
+pub use bouncing::Bouncing;
 pub use dialling::dial;
 pub use fault::DialFault;
 pub use program::attend;
 pub use request::{Asked, Form, Manner, Request};
+pub use runs::IDLE_MS;
+pub use trace_fault::TraceFault;
 pub use words::PROGRAM;
+pub use writing::write_trace;

@@ -1,8 +1,8 @@
 // What the words of the command line ask for.
 
+use crate::Bouncing;
 use xb_calls::RowOrder;
 use xb_model::Plan;
-use xb_trace::Bouncing;
 use xb_worn::{Fault, Wear};
 
 /// What is printed.

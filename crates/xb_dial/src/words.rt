@@ -2,13 +2,13 @@
 ghost use Rattle.std.specs.Prelude.{◌≡◌, IfErr, IfOk};
 ghost use Rattle.xb_dial.specs.Options.{IsNothing, Say, SayOptions, form_of, has_idle_seed, manner_of, standard_speed, up_to, wear_of};
 
+use crate::Bouncing;
 use crate::fault_words::faults_said;
 use crate::request::{Asked, Form, Manner, Request};
 use std::alloc::Global;
 use xb_calls::{RowOrder, Speed};
 use xb_command::{Answer, FLAG, NOTHING, Program, Value, Word, Words};
 use xb_model::Plan;
-use xb_trace::Bouncing;
 use xb_worn::Wear;
 
 // The most percent by which each pulse of a digit is longer for each pulse before it (own limit).
@@ -111,7 +111,7 @@ away.",
             ..FLAG
         },
         Word {
-            name: "beyond",
+            name: "out-of-limits",
             help: "times beyond the limits of an office too",
             ..FLAG
         },
@@ -151,7 +151,7 @@ away.",
             ..FLAG
         },
         Word {
-            name: "any",
+            name: "incomplete",
             help: "any digits, complete or not",
             ..FLAG
         },
@@ -199,10 +199,10 @@ fn options_of<'a>(words: &Words<'a>) -> Options<'a>
         bounce: words.number("bounce"),
         seed: words.number("seed"),
         plan: words.number("plan"),
-        beyond: words.flag("beyond"),
+        beyond: words.flag("out-of-limits"),
         vcd: words.flag("vcd"),
         in_turn: words.flag("in-turn"),
-        any: words.flag("any"),
+        any: words.flag("incomplete"),
     }
 }
 

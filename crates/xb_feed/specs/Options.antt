@@ -1,9 +1,11 @@
 -- What words of a command line ask for of a recording, as clap reads them.
-use Rattle.std.specs.Prelude.{ℕ, ◌≡◌, ◌⊎◌, ◌≤◌, ◌==◌, List, [], ◌∷◌, ◌++◌, Bool, false, true, Option, Some, None, bytes_eq, codes, length, map, not, option_and_then, option_map, ◌||◌, if◌then◌else◌}
-use Rattle.std.specs.List.{after_first, before_first, filter, list_any}
+use Rattle.std.specs.Prelude.{ℕ, ◌≡◌, ◌⊎◌, ◌≤◌, ◌==◌, List, [], ◌∷◌, ◌++◌, Bool, false, true, Option, Some, None, codes, length, map, option_and_then, option_map, ◌||◌, if◌then◌else◌}
+use Rattle.std.specs.List.{after_first, before_first, list_any}
 use Rattle.std.specs.Option.{unwrap_or}
 use Rattle.clap.specs.Walk.{Row, Text, all_of, first_of}
 use Rattle.xb_command.specs.Given.{ReadsFlag, ReadsNumber, given_by}
+use Rattle.xb_command.specs.declared.asking.Answer.{Answer}
+use Rattle.xb_command.specs.declared.asking.Answer.TheVariants as answer
 use Rattle.xb_recording.specs.declared.format.Format.{Format}
 use Rattle.xb_recording.specs.declared.format.Format.TheVariants as formats
 use Rattle.xb_recording.specs.Formats.{format_of}
@@ -17,10 +19,6 @@ use Rattle.xb_text.specs.Pieces.{pieces}
 use Rattle.xb_feed.specs.declared.manner.AskedLine.{AskedLine}
 use Rattle.xb_feed.specs.declared.manner.Manner.{Manner}
 use Rattle.xb_feed.specs.OwnWords.{manner_of, no_own, own_after, own_or}
-
--- the words without each `--line`, after which the wire of a line stands
-abbrev pub plain_words : List Text → List Text
-plain_words words = filter (λ word. not (bytes_eq word (codes "--line"))) words
 
 -- a line, the name of its wire, which ends at the first comma, and what the line says of itself in words after commas;
 -- what it does not say is as of all. None for a line whose ringing is not told
@@ -86,9 +84,15 @@ form_asked lossy name = option_and_then (form_suited lossy) (form_named name)
 abbrev pub IsPercent : ℕ → Type 0
 IsPercent percent = (1 ≤ percent) × (percent ≤ 99)
 
--- the words that stand alone
-abbrev pub lone_words : List Row → List Text
-lone_words rows = unwrap_or (all_of (codes "line") rows) []
+-- the words of the wires
+abbrev pub wire_words : List Row → List Text
+wire_words rows = unwrap_or (all_of (codes "wire") rows) []
+
+-- why words ask for nothing: memory ran out, or this is so
+abbrev pub IsUnfit : Type 0 → Answer → Type 0
+IsUnfit Nothing answer.NoMemory = Unit {0}
+IsUnfit Nothing (answer.Unfit misfit) = Nothing
+IsUnfit Nothing a = ⊥
 
 -- the number of an option, or another where it was not given
 abbrev pub ReadsOr : Option Text → ℕ → ℕ → Type 0
@@ -103,6 +107,7 @@ pub record IsForAll (rows : List Row) (all : Own) : Type 0 where
 
 -- what clap matched says this, where something holds for all lines
 pub record Say {G : Type 0} (rows : List Row) (common : G) (request : Request G) : Type 0 where
+  pub recording : option_map (λ name. name.now) request.recording ≡ first_of (codes "RECORDING") rows
   pub table : option_map (λ name. name.now) request.table ≡ first_of (codes "table") rows
   pub lossy : ReadsFlag (given_by rows (codes "lossy")) request.wanted.lossy
   pub format : form_asked request.wanted.lossy (first_of (codes "format") rows) ≡ Some request.format
@@ -110,11 +115,11 @@ pub record Say {G : Type 0} (rows : List Row) (common : G) (request : Request G)
   pub common_is : request.common ≡ common
   pub threshold : ReadsOr (given_by rows (codes "threshold")) THRESHOLD_PERCENT request.wanted.threshold.percent
   pub notes : Bool
-  pub notes_are : ReadsFlag (given_by rows (codes "said")) notes
+  pub notes_are : ReadsFlag (given_by rows (codes "bounces")) notes
   pub said : request.said ≡ (notes || request.wanted.lossy)
   pub all : Own
   pub for_all : IsForAll rows all
-  pub wires : wires_after all ([], []) (lone_words rows) ≡ Some (request.lines.items, names_in request.wanted)
+  pub wires : wires_after all ([], []) (wire_words rows) ≡ Some (request.lines.items, names_in request.wanted)
 
 -- what clap matched says nothing that there is: another form, a threshold that is none, a word that is no wire, or a
 -- line twice
@@ -123,4 +128,4 @@ SayNothing rows =
     ((lossy : Bool) × ReadsFlag (given_by rows (codes "lossy")) lossy
     × (form_asked lossy (first_of (codes "format") rows) ≡ None))
     ⊎ (((percent : ℕ) × ReadsOr (given_by rows (codes "threshold")) THRESHOLD_PERCENT percent × (IsPercent percent → ⊥))
-    ⊎ ((all : Own) × IsForAll rows all × (wires_after all ([], []) (lone_words rows) ≡ None)))
+    ⊎ ((all : Own) × IsForAll rows all × (wires_after all ([], []) (wire_words rows) ≡ None)))

@@ -39,4 +39,4 @@ pub use manner::{AskedLine, Manner};
 pub use name::InOneLine;
 pub use request::Request;
 pub use tally::{Bounces, Tally};
-pub use words::{plain_words, request_of};
+pub use words::{FORMAT, INVERTED, RATE, RECORDING, SETTLE, THRESHOLD, WIRE, request_of};

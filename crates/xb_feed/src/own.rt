@@ -1,5 +1,5 @@
 // What a line says of itself, in words after the name of its wire.
-ghost use Rattle.std.specs.Prelude.{◌≡◌, option_copied};
+ghost use Rattle.std.specs.Prelude.{◌≡◌, IfErr, IfOk, None, Some, option_copied};
 ghost use Rattle.xb_feed.specs.OwnWords.{hears_ringing, manner_of, manner_said, no_own, own_added, own_after, own_inverted, own_number, own_or, own_ringing, own_seize, own_settle, said_once, said_or, standard_seize};
 ghost use Rattle.xb_text.specs.Pieces.{pieces_left};
 
@@ -31,6 +31,15 @@ const RINGING_SEIZE_MS: u32 = 150;
 
 // A make of a period of ringing may last 65 ms.
 const LEAST_RINGING_SEIZE_MS: u32 = 66;
+
+// Why a word after a comma is refused.
+const NO_WORD: &str = "after a comma may stand inverted, ringing, settle=MS or seize=MS";
+
+const NO_VALUE: &str = "inverted and ringing take no value";
+
+const NO_MS: &str = "settle and seize want a whole number of ms, below 4294967296";
+
+const TWICE: &str = "no word after a comma may stand there twice";
 
 const NO_OWN: Own = Own {
     settle_ms: None,
@@ -153,6 +162,25 @@ impl Own {
         self.add_number(name, digits)
     }
 
+    // Why a word says nothing more of a line.
+    fn reason_against(self, word: &[u8]) -> &'static str {
+        let (name, has_value) = match cut_at(b'=', word) {
+            Some((name, _)) => (name, true),
+            None => (word, false),
+        };
+        if name == b"inverted".as_slice() || name == b"ringing".as_slice() {
+            return if has_value { NO_VALUE } else { TWICE };
+        }
+        let before = if name == b"settle".as_slice() {
+            self.settle_ms
+        } else if name == b"seize".as_slice() {
+            self.seize_ms
+        } else {
+            return NO_WORD;
+        };
+        if before.is_some() { TWICE } else { NO_MS }
+    }
+
     /// What holds for a line: what it says itself, and else what is said of all.
     pub fn or(self, all: Own) -> Own
         ensures { result ≡ own_or self all }
@@ -191,18 +219,21 @@ impl Own {
     }
 }
 
-/// What a line says of itself in words between commas: `inverted`, `ringing`, `settle=MS` and
-/// `seize=MS`, each once. `None` where
-/// a word is another one.
-pub(crate) fn own_of(words: Option<&[u8]>) -> Option<Own>
-    ensures { result ≡ own_after no_own (pieces_left 44 (option_copied words.entry)) }
+/// What a line says of itself in words between commas: `inverted`, `ringing`, `settle=MS` and `seize=MS`, each once; or why
+/// the first other word is none.
+pub(crate) fn own_of(words: Option<&[u8]>) -> Result<Own, &'static str>
+    ensures said { IfOk result (λ own. own_after no_own (pieces_left 44 (option_copied words.entry)) ≡ Some own) }
+    ensures none { IfErr result (λ _. own_after no_own (pieces_left 44 (option_copied words.entry)) ≡ None) }
 {
     let mut own = NO_OWN;
     let mut left = words;
     while let Some(text) = left {
         let (word, later) = first_piece(b',', text);
-        own = own.add(word)?;
+        match own.add(word) {
+            Some(more) => own = more,
+            None => return Err(own.reason_against(word)),
+        }
         left = later;
     }
-    Some(own)
+    Ok(own)
 }

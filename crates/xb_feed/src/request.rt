@@ -6,6 +6,8 @@ use xb_recording::{Format, Wanted};
 /// What is asked for, where a `G` holds for all lines.
 #[derive(Drop)]
 pub struct Request<'a, G> {
+    /// The file of the recording; without it, or with `-`, the input.
+    pub recording: Option<&'a str>,
     /// The file of the route table that is asked for, if one is.
     pub table: Option<&'a str>,
     /// The form of the recording; where none is given, its beginning tells it.

@@ -1,15 +1,14 @@
 // What words of a command line ask for of a recording.
 ghost use Rattle.std.specs.Prelude.{◌≡◌, ◌∷◌, [], IfErr, IfOk, None, OnOk, Some, map, option_copied, option_map, true, unwrap_or};
-ghost use Rattle.xb_command.specs.Commands.{texts_of};
 ghost use Rattle.xb_feed.specs.declared.words.TheConstants.{THRESHOLD_PERCENT};
-ghost use Rattle.xb_feed.specs.Options.{IsForAll, IsPercent, Say, SayNothing, form_asked, form_named, form_suited, is_among, plain_words, wire_added, wire_by, wire_of, wires_after, wires_in};
+ghost use Rattle.xb_feed.specs.Options.{IsForAll, IsPercent, IsUnfit, Say, SayNothing, form_asked, form_named, form_suited, is_among, wire_added, wire_by, wire_of, wires_after, wires_in};
 ghost use Rattle.xb_text.specs.Pieces.{pieces, pieces_left};
 
 use crate::manner::AskedLine;
 use crate::own::{Own, own_of};
 use crate::request::Request;
-use std::alloc::{AllocError, Global};
-use xb_command::{Words, WordsFault};
+use std::alloc::Global;
+use xb_command::{Answer, FLAG, Misfit, NOTHING, Value, Word, Words};
 use xb_model::{LineNo, line_of};
 use xb_recording::{Format, Wanted, format_of};
 use xb_samples::Threshold;
@@ -17,25 +16,72 @@ use xb_samples::Threshold;
 // A sixteenth of the range.
 const THRESHOLD_PERCENT: u32 = 6;
 
+/// The recording, a file.
+pub const RECORDING: Word<'static> = Word {
+    name: "RECORDING",
+    value: Value::MayStand,
+    help: "the recording, a file; without it, or with -, standard input",
+    ..FLAG
+};
+
+/// The wire of a line, any number of times.
+pub const WIRE: Word<'static> = Word {
+    name: "wire",
+    value: Value::Texts,
+    shown: "N=WIRE",
+    ..FLAG
+};
+
+/// The form of the recording.
+pub const FORMAT: Word<'static> = Word {
+    name: "format",
+    value: Value::OneOf(&[
+        "vcd", "sigrok", "saleae", "edges", "gpiomon", "bits", "bits16", "s16", "wav",
+    ]),
+    shown: "FORM",
+    help: "its form, in place of that which its beginning tells; bits, bits16 and s16 have to be named",
+    ..FLAG
+};
+
+/// How many samples a second there are.
+pub const RATE: Word<'static> = Word {
+    name: "rate",
+    value: Value::Number(1, u32::MAX),
+    shown: "HZ",
+    help: "samples a second, where the recording does not say it (bits, bits16, s16, some CSV of sigrok)",
+    ..FLAG
+};
+
+/// From how many ms on a run is settled.
+pub const SETTLE: Word<'static> = Word {
+    name: "settle",
+    value: Value::Number(0, u32::MAX),
+    shown: "MS",
+    help: "a run shorter than MS is a bounce, and belongs to the next run that is not (5; 0: none)",
+    ..FLAG
+};
+
+/// How far a sample has to be from 0.
+pub const THRESHOLD: Word<'static> = Word {
+    name: "threshold",
+    value: Value::Number(1, 99),
+    shown: "PERCENT",
+    help: "how far a sample of sound has to be from 0 to count, in parts of the greatest one (6)",
+    ..FLAG
+};
+
+/// Whether a low wire is a closed loop.
+pub const INVERTED: Word<'static> = Word {
+    name: "inverted",
+    help: "a low wire is a closed loop",
+    ..FLAG
+};
+
 // The lines that are asked for, and the names of their wires, in one order.
 #[derive(Drop)]
 struct Wires<'a> {
     lines: Vec<AskedLine>,
     names: Vec<&'a str>,
-}
-
-/// The words of the command line, of which `--line` is taken away: the wire of a line stands after it, and is
-/// a word that stands alone.
-pub fn plain_words(alloc: Global, words: &[String]) -> Result<Vec<String>, AllocError>
-    ensures { IfOk result (λ plain. texts_of plain.items ≡ plain_words (texts_of words.now)) }
-{
-    let mut plain = Vec::new(alloc);
-    for word in words {
-        if word.as_str() != "--line" {
-            plain.push(word.clone()?)?;
-        }
-    }
-    Ok(plain)
 }
 
 // The name of a wire, and what stands after its comma, if there is one.
@@ -48,26 +94,37 @@ fn cut_name(text: &str) -> (&str, Option<&[u8]>)
     }
 }
 
-// The wire of a line, and how the line is listened to; what it does not say is as of all.
-fn wire_by(all: Own, number: LineNo, text: &str) -> Option<(AskedLine, &str)>
-    ensures { option_map (λ wire. (wire.0, wire.1.now)) result ≡ wire_by all number (pieces 44 text.now) }
+const TOO_SHORT_FOR_A_BELL: &str =
+    "a make of a line that rings seizes it from 66 ms on: --seize or seize= is 66 or more";
+
+// The wire of a line, and how the line is listened to; what it does not say is as of all. Or why there is none.
+fn wire_by(all: Own, number: LineNo, text: &str) -> Result<(AskedLine, &str), &'static str>
+    ensures wire { IfOk result (λ wire. wire_by all number (pieces 44 text.now) ≡ Some (wire.0, wire.1.now)) }
+    ensures none { IfErr result (λ _. wire_by all number (pieces 44 text.now) ≡ None) }
 {
     let (name, words) = cut_name(text);
     if name.is_empty() {
-        return None;
+        return Err("after = comes the name or the number of a wire");
     }
     let own = own_of(words)?;
-    let manner = own.or(all).manner()?;
-    Some((AskedLine { number, manner }, name))
+    match own.or(all).manner() {
+        Some(manner) => Ok((AskedLine { number, manner }, name)),
+        None => Err(TOO_SHORT_FOR_A_BELL),
+    }
 }
 
-// The line of a word as `7=D0,inverted`, which is written as in a record, and the name of its wire.
-fn wire_of(all: Own, word: &str) -> Option<(AskedLine, &str)>
-    ensures { option_map (λ wire. (wire.0, wire.1.now)) result ≡ wire_of all word.now }
+// The line of a word as `7=D0,inverted`, which is written as in a record, and the name of its wire; or why there is none.
+fn wire_of(all: Own, word: &str) -> Result<(AskedLine, &str), &'static str>
+    ensures wire { IfOk result (λ wire. wire_of all word.now ≡ Some (wire.0, wire.1.now)) }
+    ensures none { IfErr result (λ _. wire_of all word.now ≡ None) }
 {
-    let (number, text) = word.split_once('=')?;
-    let number = line_of(number.as_bytes())?;
-    wire_by(all, number, text)
+    let Some((number, text)) = word.split_once('=') else {
+        return Err("a line, = and a wire are wanted, as 7=D0");
+    };
+    match line_of(number.as_bytes()) {
+        Some(number) => wire_by(all, number, text),
+        None => Err("a line is 0 to 9999, in at most four digits"),
+    }
 }
 
 // Whether a line is among lines.
@@ -82,33 +139,58 @@ fn is_among(number: LineNo, lines: &[AskedLine]) -> bool
     false
 }
 
+// What is wrong with a word that is no wire of a line.
+fn no_wire<'a>(value: &'a str, reason: &'static str) -> Misfit<'a> {
+    Misfit {
+        option: "wire",
+        value,
+        reason,
+    }
+}
+
+// What is wrong with a wire, or with the `--seize` of all lines, where a bell does not go with that.
+fn or_seize<'a>(words: &Words<'a>, misfit: Misfit<'a>) -> Misfit<'a> {
+    match words.text("seize") {
+        Some(value) if misfit.reason == TOO_SHORT_FOR_A_BELL && !misfit.value.contains(",seize=") =>
+            {
+                Misfit {
+                    option: "seize",
+                    value,
+                    ..misfit
+                }
+            }
+        _ => misfit,
+    }
+}
+
 impl<'a> Wires<'a> {
     // The wire of a word more. No line may stand twice.
-    fn add(&mut self, all: Own, word: &'a str) -> Result<(), WordsFault>
+    fn add(&mut self, all: Own, word: &'a str) -> Result<(), Answer<'a>>
         ensures added { OnOk result
             (wire_added all (wires_in self.old) word.now ≡ Some (wires_in self.new)) }
-        ensures refused { IfErr result (λ f. f ≡ WordsFault.Refused
-            → wire_added all (wires_in self.old) word.now ≡ None) }
+        ensures refused { IfErr result
+            (IsUnfit (wire_added all (wires_in self.old) word.now ≡ None)) }
     {
-        let Some((line, name)) = wire_of(all, word) else {
-            return Err(WordsFault::Refused);
+        let (line, name) = match wire_of(all, word) {
+            Ok(wire) => wire,
+            Err(reason) => return Err(Answer::Unfit(no_wire(word, reason))),
         };
         if is_among(line.number, &self.lines) {
-            return Err(WordsFault::Refused);
+            return Err(Answer::Unfit(no_wire(word, "a line has one wire, and not twice")));
         }
         if self.lines.push(line).is_err() || self.names.push(name).is_err() {
-            return Err(WordsFault::NoMemory);
+            return Err(Answer::NoMemory);
         }
         Ok(())
     }
 }
 
 // The lines of words and the names of their wires.
-fn wires_of<'a>(alloc: Global, all: Own, words: &[&'a str]) -> Result<Wires<'a>, WordsFault>
+fn wires_of<'a>(alloc: Global, all: Own, words: &[&'a str]) -> Result<Wires<'a>, Answer<'a>>
     ensures named { IfOk result (λ wires.
         wires_after all ([], []) (map (λ word. word.now) words.now) ≡ Some (wires_in wires)) }
-    ensures refused { IfErr result (λ f. f ≡ WordsFault.Refused
-        → wires_after all ([], []) (map (λ word. word.now) words.now) ≡ None) }
+    ensures refused { IfErr result
+        (IsUnfit (wires_after all ([], []) (map (λ word. word.now) words.now) ≡ None)) }
 {
     let mut wires = Wires {
         lines: Vec::new(alloc),
@@ -121,53 +203,68 @@ fn wires_of<'a>(alloc: Global, all: Own, words: &[&'a str]) -> Result<Wires<'a>,
 }
 
 // The form that is named, if one is.
-fn asked_format(name: Option<&str>) -> Result<Option<Format>, WordsFault>
+fn asked_format<'a>(name: Option<&'a str>) -> Result<Option<Format>, Misfit<'a>>
     ensures named { IfOk result (λ format.
         form_named (option_map (λ text. text.now) name.entry) ≡ Some format) }
-    ensures refused { IfErr result (λ f. form_named (option_map (λ text. text.now) name.entry) ≡ None) }
+    ensures refused { IfErr result (λ _. form_named (option_map (λ text. text.now) name.entry) ≡ None) }
 {
     match name {
         None => Ok(None),
         Some(name) => match format_of(name) {
             Some(format) => Ok(Some(format)),
-            None => Err(WordsFault::Refused),
+            None => Err(no_form(name, "there is no such form")),
         },
     }
 }
 
+// What is wrong with a form.
+fn no_form<'a>(value: &'a str, reason: &'static str) -> Misfit<'a> {
+    Misfit {
+        option: "format",
+        value,
+        reason,
+    }
+}
+
 // The form of a recording whose edges may be lost, which is that of gpiomon; no other one may be named.
-fn lossy_format(named: Option<Format>) -> Result<Option<Format>, WordsFault>
+fn lossy_format<'a>(
+    named: Option<Format>,
+    name: Option<&'a str>,
+) -> Result<Option<Format>, Misfit<'a>>
     ensures suited { IfOk result (λ format. form_suited true named ≡ Some format) }
-    ensures refused { IfErr result (λ f. form_suited true named ≡ None) }
+    ensures refused { IfErr result (λ _. form_suited true named ≡ None) }
 {
     match named {
         None | Some(Format::Gpiomon) => Ok(Some(Format::Gpiomon)),
-        Some(_) => Err(WordsFault::Refused),
+        Some(_) => Err(no_form(name.unwrap_or(""), "with --lossy the form is gpiomon")),
     }
 }
 
 // The form that is asked for, if one is.
-fn suited_format(lossy: bool, name: Option<&str>) -> Result<Option<Format>, WordsFault>
+fn suited_format<'a>(lossy: bool, name: Option<&'a str>) -> Result<Option<Format>, Misfit<'a>>
     ensures asked { IfOk result (λ format.
         form_asked lossy (option_map (λ text. text.now) name.entry) ≡ Some format) }
-    ensures refused { IfErr result (λ f.
+    ensures refused { IfErr result (λ _.
         form_asked lossy (option_map (λ text. text.now) name.entry) ≡ None) }
 {
     let named = asked_format(name)?;
     if lossy {
-        lossy_format(named)
+        lossy_format(named, name)
     } else {
         Ok(named)
     }
 }
 
 // The threshold that is given, if one is.
-fn asked_threshold(percent: Option<u32>) -> Result<Threshold, WordsFault>
+fn asked_threshold(percent: Option<u32>) -> Result<Threshold, Misfit<'static>>
     ensures given { IfOk result (λ threshold.
         threshold.percent ≡ unwrap_or percent THRESHOLD_PERCENT) }
-    ensures refused { IfErr result (λ f. IsPercent (unwrap_or percent THRESHOLD_PERCENT) → ⊥) }
+    ensures refused { IfErr result (λ _. IsPercent (unwrap_or percent THRESHOLD_PERCENT) → ⊥) }
 {
-    Threshold::new(percent.unwrap_or(THRESHOLD_PERCENT)).ok_or(WordsFault::Refused)
+    match Threshold::new(percent.unwrap_or(THRESHOLD_PERCENT)) {
+        Some(threshold) => Ok(threshold),
+        None => Err(NOTHING),
+    }
 }
 
 // What is said of all lines.
@@ -182,24 +279,35 @@ fn said_of_all(words: &Words<'_>) -> Own
     }
 }
 
-/// What words ask for, where this holds for all lines; notes are asked for where edges may be lost too. They are
-/// refused where there is no such form or threshold, or another form than that of gpiomon where edges may be lost; or
-/// a word is no wire, names a line again, or has a word after a comma that is none, or is said twice, or rings where
-/// a make of under 66 ms seizes.
+/// What words ask for, where this holds for all lines; notes are asked for where edges may be lost too. Or why they ask for
+/// nothing: there is no such form or threshold, or another form than that of gpiomon where edges may be lost; or a word is
+/// no wire, names a line again, or has a word after a comma that is none, or is said twice, or rings where a make of under
+/// 66 ms seizes.
 pub fn request_of<'a, G: Drop>(
     alloc: Global,
     words: &Words<'a>,
     common: G,
-) -> Result<Request<'a, G>, WordsFault>
+) -> Result<Request<'a, G>, Answer<'a>>
     ensures says { IfOk result (λ request. Say words.now common request) }
-    ensures nothing { IfErr result (λ f. f ≡ WordsFault.Refused → SayNothing words.now) }
+    ensures nothing { IfErr result (IsUnfit (SayNothing words.now)) }
 {
     let lossy = words.flag("lossy");
-    let format = suited_format(lossy, words.text("format"))?;
-    let threshold = asked_threshold(words.number("threshold"))?;
+    let format = match suited_format(lossy, words.text("format")) {
+        Ok(format) => format,
+        Err(misfit) => return Err(Answer::Unfit(misfit)),
+    };
+    let threshold = match asked_threshold(words.number("threshold")) {
+        Ok(threshold) => threshold,
+        Err(misfit) => return Err(Answer::Unfit(misfit)),
+    };
     let all = said_of_all(words);
-    let Wires { lines, names } = wires_of(alloc, all, words.texts("line").unwrap_or(&[]))?;
+    let Wires { lines, names } = match wires_of(alloc, all, words.texts("wire").unwrap_or(&[])) {
+        Ok(wires) => wires,
+        Err(Answer::Unfit(misfit)) => return Err(Answer::Unfit(or_seize(words, misfit))),
+        Err(answer) => return Err(answer),
+    };
     Ok(Request {
+        recording: words.text("RECORDING"),
         table: words.text("table"),
         format,
         lines,
@@ -210,6 +318,6 @@ pub fn request_of<'a, G: Drop>(
             lossy,
         },
         common,
-        said: words.flag("said") || lossy,
+        said: words.flag("bounces") || lossy,
     })
 }

@@ -1,6 +1,8 @@
 //! What the definitions give: each law is the contract of a function that does nothing.
 ghost use Rattle.xb_heard.specs.Mutilated.{MutilatedIsNamed};
 ghost use Rattle.xb_heard.specs.WorkedReports.{WorkedFigures, WorkedReports};
+ghost use Rattle.std.specs.Prelude.{◌≡◌};
+ghost use Rattle.xb_heard.specs.declared.figures.TheConstants.{MANY_RUNS};
 
 /// What is heard in some worked rows, at each limit.
 pub fn worked_reports()
@@ -15,4 +17,9 @@ pub fn worked_figures()
 /// The chain takes a digit for mutilated exactly where the report of its line names what spoils it.
 pub fn mutilated_is_named()
     ensures { MutilatedIsNamed }
+{}
+
+/// Of how many runs a train has no percent break.
+pub fn constants()
+    ensures many_runs { MANY_RUNS ≡ 4294967296 }
 {}

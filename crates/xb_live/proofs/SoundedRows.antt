@@ -18,7 +18,7 @@ use Rattle.xb_trunk.proofs.Times.{sounded-append, waiting-append}
 use Rattle.xb_live.specs.Counting.{Counted, HasCounted, entry_of}
 use Rattle.xb_live.specs.Entries.{Entry, entries_of_rows}
 use Rattle.xb_trunk.specs.declared.fault.TrunkFault.{TrunkFault}
-use Rattle.xb_start.specs.Starts.{Dial, dial_after, no_dial}
+use Rattle.xb_trunk.specs.Starts.{Dial, dial_after, no_dial}
 use Rattle.xb_live.specs.Sounding.{HasSounded, HasStarted, Sounds, sound_of_rows}
 use Rattle.xb_live.specs.Starting.{Asked, Started, clock_by, clock_taken, events_after, events_of, given_up_asked, given_up_by, given_up_in, marks_by_start, marks_given, other_by, other_taken, started_of, steps_asked, steps_by, steps_from, up_at_end, up_at_end_by}
 use Rattle.xb_live.specs.Steps.{marks_by, steps_after, steps_in, steps_of}

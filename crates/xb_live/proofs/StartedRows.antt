@@ -5,11 +5,11 @@ use Rattle.std.proofs.lemmas.List.Sums.{fold-append, sum_by-append}
 use Rattle.xb_model.specs.declared.mark.Mark.{Mark}
 use Rattle.xb_model.specs.Rows.{LoopRow}
 use Rattle.xb_routes.specs.Table.{Table}
-use Rattle.xb_start.specs.declared.dial.Fate.TheVariants.{Waits, Keyed, GivenUp}
-use Rattle.xb_start.specs.declared.dial.TheConstants.{LONGEST_WAIT}
-use Rattle.xb_start.specs.Laws.{Settlement, settled_from, settled_in, settlement_of}
-use Rattle.xb_start.specs.Starts.{Dial, Event, clock, lead, after, after_clock, dial_after, fate_at, is_ready, no_dial}
-use Rattle.xb_start.proofs.Settlements.{dial_of}
+use Rattle.xb_trunk.specs.declared.start_dial.Fate.TheVariants.{Waits, Keyed, GivenUp}
+use Rattle.xb_trunk.specs.declared.start_dial.TheConstants.{LONGEST_WAIT}
+use Rattle.xb_trunk.specs.StartLaws.{Settlement, settled_from, settled_in, settlement_of}
+use Rattle.xb_trunk.specs.Starts.{Dial, Event, clock, lead, after, after_clock, dial_after, fate_at, is_ready, no_dial}
+use Rattle.xb_trunk.proofs.Settlements.{dial_of}
 use Rattle.xb_trunk.specs.Sounded.{Step, step_of}
 use Rattle.xb_live.specs.Starting.{Started, call_in, events_after, events_in, events_of, given_up_in, is_given_up, keyed_in, marks_by_start, clock_by, other_by, step_in, steps_by, steps_from, up_with}
 use Rattle.xb_live.specs.Steps.{marks_by}

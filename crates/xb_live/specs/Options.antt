@@ -1,39 +1,30 @@
 -- What the words of the command line ask for, as clap reads them.
-use Rattle.std.specs.Prelude.{ℕ, ◌==◌, ◌||◌, List, [], ◌∷◌, codes, Bool, true, false, Option, Some, None, if◌then◌else◌, is_some, min, nat_lt, option_map}
-use Rattle.clap.specs.Simple.{App}
-use Rattle.clap.specs.Walk.{Row, Text, first_of}
+use Rattle.std.specs.Prelude.{ℕ, ◌≡◌, ◌==◌, ◌||◌, List, codes, Bool, true, false, Option, Some, None, if◌then◌else◌, is_some, min, nat_lt, option_map}
+use Rattle.clap.specs.Walk.{Row, first_of}
 use Rattle.jiff_core.specs.declared.timestamp.Timestamp.{Timestamp}
 use Rattle.xb_clock.specs.Since.{ReadsSince}
 use Rattle.xb_clock.specs.declared.since.Since.{Since}
 use Rattle.xb_clock.specs.declared.since.Since.TheVariants as since
-use Rattle.xb_command.specs.Commands.{command_of}
-use Rattle.xb_command.specs.Given.{AskForNothing, AsksFor, ReadsFlag, ReadsNumber, given_by}
-use Rattle.xb_command.specs.declared.command.Takes.TheVariants as takes
+use Rattle.xb_command.specs.Answers.{Takes}
+use Rattle.xb_command.specs.Given.{ReadsFlag, ReadsNumber, given_by}
+use Rattle.xb_command.specs.declared.asking.Misfit.{Misfit}
+use Rattle.xb_command.specs.declared.table.Call.{Call}
 use Rattle.xb_model.specs.declared.line.TheConstants.{LINES}
 use Rattle.xb_sound.specs.declared.cadence.Cadence.{Cadence}
 use Rattle.xb_sound.specs.Cadences.{standard_cadence}
 use Rattle.xb_live.specs.declared.printing.EntryForm.{EntryForm}
 use Rattle.xb_live.specs.declared.printing.EntryForm.TheVariants as form
+use Rattle.xb_live.specs.declared.request.Asked.{Asked}
 use Rattle.xb_live.specs.declared.request.Request.{Request}
 use Rattle.xb_live.specs.declared.request.Request.TheVariants as request
 use Rattle.xb_live.specs.declared.words.Options.{Options}
 
--- `mflive [--json [--since TIME]] [--marks] [--events [--since TIME]]`, or
--- `mflive --sound N [--lead N] [--kp N] [--key N] [--gap N]`
-abbrev pub command_of_words : App
-command_of_words =
-    command_of (codes "mflive")
-    ((codes "events", takes.Nothing) ∷ (codes "json", takes.Nothing) ∷ (codes "marks", takes.Nothing)
-    ∷ (codes "since", takes.Text) ∷ (codes "sound", takes.Number) ∷ (codes "start", takes.Number)
-    ∷ (codes "lead", takes.Number) ∷ (codes "kp", takes.Number) ∷ (codes "key", takes.Number)
-    ∷ (codes "gap", takes.Number) ∷ [])
-
--- what clap matched says whether events are printed, whether JSON is, whether marks are printed by themselves, the
--- time that the ms are counted from, the line that sounds, the one whose winks are its starts, and the times of keys
+-- what clap matched says these options
 pub record Say (rows : List Row) (options : Options) : Type 0 where
+  pub deck : option_map (λ text. text.now) options.deck ≡ first_of (codes "DECK") rows
   pub events : ReadsFlag (given_by rows (codes "events")) options.events
   pub json : ReadsFlag (given_by rows (codes "json")) options.json
-  pub marks : ReadsFlag (given_by rows (codes "marks")) options.marks
+  pub marks : ReadsFlag (given_by rows (codes "by-key")) options.marks
   pub since : ReadsSince (first_of (codes "since") rows) options.since
   pub sound : ReadsNumber (given_by rows (codes "sound")) options.sound
   pub start : ReadsNumber (given_by rows (codes "start")) options.start
@@ -123,12 +114,27 @@ request_by options (Some number) =
 abbrev pub request_of : Options → Option Request
 request_of options = request_by options options.sound
 
--- clap takes the words, and they ask for this
-abbrev pub Asks : List Text → Request → Type 0
-Asks words asked = AsksFor command_of_words Say request_of words asked
+-- what clap matched says this
+pub record SayAsked (rows : List Row) (asked : Asked) : Type 0 where
+  pub options : Options
+  pub says : Say rows options
+  pub deck : asked.deck ≡ options.deck
+  pub request : request_of options ≡ Some asked.request
 
--- clap refuses the words, or they ask for nothing: a word that is no time, a time without objects, a line that there is
--- not, a start line that is the line that sounds, options of entries beside a line that sounds, or a start line or
--- times of keys without one
-abbrev pub AreRefused : List Text → Type 0
-AreRefused words = AskForNothing command_of_words Say request_of words
+-- what clap matched says options that ask for nothing: a word that is no time, or a start line that is the line that
+-- sounds, or what a table refuses: a time without objects, a line that there is not, options of entries beside a line
+-- that sounds, or a start line or times of keys without one
+abbrev pub AskNothing : List Row → Type 0
+AskNothing rows = (options : Options) × Say rows options × (request_of options ≡ None)
+
+-- the words of a call are taken, and ask for this
+pub record Asks (call : Call) (asked : Asked) : Type 0 where
+  pub rows : List Row
+  pub takes : Takes call rows
+  pub says : SayAsked rows asked
+
+-- they are taken, and ask for nothing
+pub record AsksNothing (call : Call) (misfit : Misfit) : Type 0 where
+  pub rows : List Row
+  pub takes : Takes call rows
+  pub says : AskNothing rows

@@ -5,7 +5,7 @@ use Rattle.xb_model.specs.Rows.{LoopRow}
 use Rattle.xb_routes.specs.Table.{Table}
 use Rattle.xb_sound.specs.declared.cadence.Cadence.{Cadence}
 use Rattle.xb_sound.specs.Wavs.{pcm_of}
-use Rattle.xb_start.specs.Starts.{dial_after}
+use Rattle.xb_trunk.specs.Starts.{dial_after}
 use Rattle.xb_text.specs.Writing.{AppendsBeginning}
 use Rattle.xb_trunk.specs.declared.fault.TrunkFault.{TrunkFault}
 use Rattle.xb_trunk.specs.Sounded.{Waits, sounded, waiting_after, whole_sound}

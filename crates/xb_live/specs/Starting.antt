@@ -4,10 +4,10 @@ use Rattle.xb_model.specs.declared.mark.Mark.{Mark}
 use Rattle.xb_model.specs.Page.{is_refused}
 use Rattle.xb_model.specs.Rows.{LoopRow}
 use Rattle.xb_routes.specs.Table.{Table}
-use Rattle.xb_start.specs.declared.dial.Fate.{Fate}
-use Rattle.xb_start.specs.declared.dial.Fate.TheVariants.{Keyed, GivenUp}
-use Rattle.xb_start.specs.Laws.{Settlement, settled_from}
-use Rattle.xb_start.specs.Starts.{Dial, Event, clock, lead, after, after_clock, after_lead, dial_after, fate_at, first_of, no_dial}
+use Rattle.xb_trunk.specs.declared.start_dial.Fate.{Fate}
+use Rattle.xb_trunk.specs.declared.start_dial.Fate.TheVariants.{Keyed, GivenUp}
+use Rattle.xb_trunk.specs.StartLaws.{Settlement, settled_from}
+use Rattle.xb_trunk.specs.Starts.{Dial, Event, clock, lead, after, after_clock, after_lead, dial_after, fate_at, first_of, no_dial}
 use Rattle.xb_trunk.specs.Sounded.{Step, step_of}
 use Rattle.xb_live.specs.Steps.{marks_by, steps_of}
 

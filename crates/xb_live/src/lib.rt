@@ -45,6 +45,8 @@ pub use hearings::Hearings;
 pub use line_hearing::Hearing;
 pub use printing::EntryForm;
 pub use program::attend;
+pub use request::{Asked, Request};
 pub use running::run_deck;
 pub use sounding::sound_deck;
+pub use words::PROGRAM;
 pub use writing::{end, take_row};

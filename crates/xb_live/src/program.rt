@@ -1,26 +1,22 @@
 // The program: its words and a deck in, a status and entries or samples out.
-ghost use Rattle.std.specs.Prelude.{◌≡◌, IfOk, string_bytes};
+ghost use Rattle.std.specs.Prelude.{◌≡◌, true, IfOk, string_bytes};
+ghost use Rattle.clap.specs.Faults.{is_simple_and_free};
 ghost use Rattle.xb_command.specs.Programs.{streams};
-ghost use Rattle.xb_command.specs.Commands.{texts_of};
-ghost use Rattle.xb_live.specs.Program.{AttendsLive, Delivers, TellsNote, note_line, note_of, sounding_line};
+ghost use Rattle.xb_command.specs.Tables.{command_by};
+ghost use Rattle.xb_command.specs.Works.{AttendsBy, Runs};
+ghost use Rattle.xb_live.specs.Program.{Delivers, Fails, TellsNote, WritesAsked, by_live, note_line, note_of, sounding_line};
 
 use crate::fault::{LiveFault, NoteFault};
-use crate::request::Request;
+use crate::request::{Asked, Request};
 use crate::running::run_deck;
 use crate::sounding::sound_deck;
-use crate::words::request_of_words;
+use crate::words::asked_of;
 use std::alloc::{AllocError, Global};
 use std::io::{Read, Write};
-use xb_command::{DONE, tell_fault, tell_words};
+use xb_command::{
+    Answer, Call, DONE, Files, Program, Source, Work, ask_words, tell_fault, text_source,
+};
 use xb_text::write_whole;
-
-// The program's name.
-pub(crate) const PROGRAM: &str = "mflive";
-
-// The line of refused words.
-const USAGE: &[u8] =
-    b"mflive: usage: mflive [--json [--since TIME]] [--marks] [--events [--since TIME]] \
-[--sound N [--start M] [--lead N] [--kp N] [--key N] [--gap N]]\n";
 
 // Writes what is asked of a deck, and tells how many keyings were given up.
 fn deliver<R: Read, W: Write>(
@@ -74,52 +70,93 @@ fn note_of(alloc: Global, line: Option<u16>, given_up: u128) -> Result<String, A
 }
 
 // Tells how many keyings were given up, if any were, and returns the status of the process.
-fn tell_note<E: Write>(alloc: Global, err: &mut E, line: Option<u16>, given_up: u128) -> u8
-    ensures { TellsNote line given_up (E.contents err.old) (E.contents err.new) result }
+fn tell_note<E: Write>(
+    alloc: Global,
+    err: &mut E,
+    program: &str,
+    line: Option<u16>,
+    given_up: u128,
+) -> u8
+    ensures { TellsNote program.now line given_up (E.contents err.old) (E.contents err.new) result }
 {
     let note = match note_of(alloc, line, given_up) {
         Ok(note) => note,
-        Err(_) => return tell_fault(alloc, err, PROGRAM, NoteFault::NoMemory),
+        Err(_) => return tell_fault(alloc, err, program, NoteFault::NoMemory),
     };
     if note.is_empty() || write_whole(err, note.as_bytes()).is_ok() {
         return DONE;
     }
-    tell_fault(alloc, err, PROGRAM, NoteFault::Write)
+    tell_fault(alloc, err, program, NoteFault::Write)
 }
 
-/// Reads the words of the command line, the program's name first, and by them writes the entries of a deck as
-/// it comes, as `run_deck` does, or the sound of a line of it, as `sound_deck` does. It returns the status of the
-/// process:
-///
-/// - `DONE`: the deck was read to its end, `out` got exactly the entries of its rows and the totals, or the samples
-///   of the rows of the line and what waits after them, and `err` one line of how many keyings were given up for want
-///   of a start, where any were;
-/// - `FAULT`: `run_deck` or `sound_deck` has a fault, or memory ran out while the words were read; `err` gets the fault
-///   as one line, and `out` got the entries, or the samples, before it; or all was written, and how many keyings were
-///   given up could not be told;
-/// - `WORDS_REFUSED`: the words are refused, or ask for help; `err` gets the usage as one line, the deck is
-///   not read and `out` got nothing.
-///
-/// A fault in writing any other line to `err` changes no status.
-pub fn attend<R: Read, W: Write, E: Write>(
+// Does what is asked of a deck, and returns the status of the process.
+fn answer<R: Read, W: Write, E: Write>(
     alloc: Global,
-    words: &[String],
+    request: Request,
+    program: &Program<'_>,
     deck: &mut R,
     out: &mut W,
     err: &mut E,
 ) -> u8
-    ensures { AttendsLive (texts_of words.now)
+    ensures { Runs (WritesAsked request) (Fails request program.now)
         (streams (R.remaining deck.old) (W.contents out.old) (E.contents err.old))
         (streams (R.remaining deck.new) (W.contents out.new) (E.contents err.new)) result }
 {
-    match request_of_words(alloc, words) {
-        Ok(request) => {
-            let line = sounding_line(&request);
-            match deliver(alloc, request, deck, out) {
-                Ok(given_up) => tell_note(alloc, err, line, given_up),
-                Err(fault) => tell_fault(alloc, err, PROGRAM, fault),
-            }
-        }
-        Err(fault) => tell_words(err, PROGRAM, USAGE, fault),
+    let line = sounding_line(&request);
+    match deliver(alloc, request, deck, out) {
+        Ok(given_up) => tell_note(alloc, err, program.name, line, given_up),
+        Err(fault) => tell_fault(alloc, err, program.name, fault),
     }
+}
+
+impl<'a> Work<'a> for Asked<'a> {
+    ghost use Rattle.xb_live.specs.Program.{by_live};
+
+    ghost rules = { by_live };
+
+    fn ask(alloc: Global, call: &Call<'a>) -> Result<Asked<'a>, Answer<'a>> {
+        let words = match ask_words(alloc, call) {
+            Ok(words) => words,
+            Err(answer) => return Err(answer),
+        };
+        match asked_of(&words) {
+            Ok(asked) => Ok(asked),
+            Err(misfit) => Err(Answer::Unfit(misfit)),
+        }
+    }
+
+    fn source(&self) -> Source<'a> {
+        text_source(self.deck)
+    }
+
+    fn run<F: Files, R: Read, W: Write, E: Write>(
+        self,
+        alloc: Global,
+        program: &Program<'a>,
+        _files: &F,
+        input: &mut R,
+        out: &mut W,
+        err: &mut E,
+    ) -> u8 {
+        answer(alloc, self.request, program, input, out, err)
+    }
+}
+
+/// Reads the words of the command line, and by them writes the entries of a deck as it comes, as `run_deck` does, or the
+/// sound of a line of it, as `sound_deck` does, and tells how many keyings were given up for want of a start, where any
+/// were. It returns the status of the process, as `attend` of `xb_command` says.
+pub fn attend<F: Files, R: Read, W: Write, E: Write>(
+    alloc: Global,
+    call: &Call<'_>,
+    files: &F,
+    input: &mut R,
+    out: &mut W,
+    err: &mut E,
+) -> u8
+    requires { is_simple_and_free (command_by call.now.program.now) ≡ true }
+    ensures { AttendsBy by_live call.now (F.bytes files.now)
+        (streams (R.remaining input.old) (W.contents out.old) (E.contents err.old))
+        (streams (R.remaining input.new) (W.contents out.new) (E.contents err.new)) result }
+{
+    xb_command::attend::<Asked<'_>, F, R, W, E>(alloc, call, files, input, out, err)
 }

@@ -5,8 +5,8 @@ ghost use Rattle.xb_live.specs.Starting.{GrowsByRow, HasRoom, call_in, clock_tak
 use std::alloc::{AllocError, Global};
 use std::marker::Model;
 use xb_model::{LineNo, Mark, Row};
-use xb_start::{Fate, StartDial};
 use xb_tape::is_refused;
+use xb_trunk::{Fate, StartDial};
 
 /// The keyings of a line, which wait for the winks of another one, where there is one.
 #[derive(Drop)]

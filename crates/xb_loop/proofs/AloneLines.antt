@@ -6,12 +6,10 @@ use Rattle.std.specs.Prelude.{option_and_then, option_map, slice_get, if◌then�
 use Rattle.std.specs.List.{list_any}
 use Rattle.std.proofs.lemmas.Bool.{eq-eqb}
 use Rattle.clap.specs.Walk.{Text}
-use Rattle.clap.specs.Simple.{matches_of}
 use Rattle.xb_recording.specs.Says.{names_in}
-use Rattle.xb_loop.specs.Rules.{command_of_words}
 use Rattle.xb_feed.specs.declared.manner.AskedLine.{AskedLine}
 use Rattle.xb_feed.specs.declared.own.Own.{Own}
-use Rattle.xb_feed.specs.Options.{is_among, lone_words, plain_words, wire_added, wire_of, wires_after}
+use Rattle.xb_feed.specs.Options.{is_among, wire_added, wire_of, wire_words, wires_after}
 use Rattle.xb_loop.specs.WireRecords.{numbers_asked}
 use Rattle.xb_loop.specs.RecordingLaws.{AsksForEachOnce}
 
@@ -117,9 +115,9 @@ module _ (said : Own) where
       apart_next word words (apart_after words) wires all (wire_added said wires word) refl e apart
 
 pub asks_for_each_once : AsksForEachOnce
-asks_for_each_once words request asks wire asked at other there =
-    let says = asks.1.rest in
-    apart_after says.all (lone_words (matches_of command_of_words (plain_words words))) ([], [])
-    (request.lines.items, names_in request.wanted) says.wires (λ i j n a b. cc) other wire asked.number there
-    (slice_get-map (λ (line : AskedLine). line.number) request.lines.items wire
+asks_for_each_once call asks said wire asked at other there =
+    let says = said.says.rest in
+    apart_after says.all (wire_words said.rows) ([], []) (asks.request.lines.items, names_in asks.request.wanted)
+    says.wires (λ i j n a b. cc) other wire asked.number there
+    (slice_get-map (λ (line : AskedLine). line.number) asks.request.lines.items wire
     ∙ ap (option_map (λ (line : AskedLine). line.number)) at)

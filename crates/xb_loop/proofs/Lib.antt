@@ -1,3 +1,9 @@
+pub mod EachOnce
+pub mod Heads
+pub mod FoundNames
+pub mod Counted
+pub mod Counting
+pub mod Unlisted
 pub mod DayParts
 pub mod RowTexts
 pub mod HeardRows

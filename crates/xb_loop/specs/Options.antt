@@ -1,33 +1,36 @@
 -- What the words of the command line ask for, as clap reads them.
-use Rattle.std.specs.Prelude.{◌≡◌, ◌≢◌, ◌⊎◌, ◌^◌, ◌-◌, List, [], codes}
-use Rattle.clap.specs.Faults.{fault_of}
-use Rattle.clap.specs.Simple.{matches_of}
-use Rattle.clap.specs.Walk.{Row, Text}
-use Rattle.xb_command.specs.Given.{IsTaken, ReadsFlag, given_by}
-use Rattle.xb_feed.specs.declared.request.Request.{Request}
-use Rattle.xb_feed.specs.Options.{ReadsOr, Say as SaysOf, SayNothing, plain_words}
+use Rattle.std.specs.Prelude.{◌≡◌, ◌^◌, ◌-◌, List, codes}
+use Rattle.clap.specs.Walk.{Row}
+use Rattle.xb_command.specs.Answers.{Takes}
+use Rattle.xb_command.specs.Given.{ReadsFlag, given_by}
+use Rattle.xb_command.specs.declared.asking.Misfit.{Misfit}
+use Rattle.xb_command.specs.declared.table.Call.{Call}
+use Rattle.xb_feed.specs.Options.{ReadsOr, Say as SaysOf, SayNothing}
 use Rattle.xb_model.specs.LawfulLimits.{standard_limits}
 use Rattle.xb_loop.specs.declared.common.Common.{Common}
-use Rattle.xb_loop.specs.Rules.{command_of_words}
+use Rattle.xb_loop.specs.declared.words.Asked.{Asked}
 
--- what clap matched says this of a recording, and of all lines
-pub record Say (rows : List Row) (request : Request Common) : Type 0 where
-  pub release : request.common.release_ms ≡ standard_limits.release
-  pub tick : ReadsOr (given_by rows (codes "tick")) (2 ^ 32 - 1) request.common.most_ms
-  pub said : ReadsFlag (given_by rows (codes "said")) request.common.said
-  pub lossy : ReadsFlag (given_by rows (codes "lossy")) request.common.lossy
-  pub rest : SaysOf rows request.common request
+-- what clap matched says this of all lines
+pub record IsCommon (rows : List Row) (common : Common) : Type 0 where
+  pub release : common.release_ms ≡ standard_limits.release
+  pub tick : ReadsOr (given_by rows (codes "tick")) (2 ^ 32 - 1) common.most_ms
+  pub said : ReadsFlag (given_by rows (codes "bounces")) common.said
+  pub lossy : ReadsFlag (given_by rows (codes "lossy")) common.lossy
 
--- clap takes plain words, and they ask for this
-abbrev pub AsksPlainly : List Text → Request Common → Type 0
-AsksPlainly words request = IsTaken command_of_words words × Say (matches_of command_of_words words) request
+-- and this of a recording, and whether its wires are listed
+pub record Say (rows : List Row) (asked : Asked) : Type 0 where
+  pub common : IsCommon rows asked.request.common
+  pub rest : SaysOf rows asked.request.common asked.request
+  pub list : ReadsFlag (given_by rows (codes "list")) asked.list
 
-abbrev pub Asks : List Text → Request Common → Type 0
-Asks words request = AsksPlainly (plain_words words) request
+-- the words of a call are taken, and ask for this
+pub record Asks (call : Call) (asked : Asked) : Type 0 where
+  pub rows : List Row
+  pub takes : Takes call rows
+  pub says : Say rows asked
 
--- clap refuses plain words, a request for help too, or they say nothing that there is
-abbrev pub ArePlainlyRefused : List Text → Type 0
-ArePlainlyRefused words = (fault_of command_of_words words ≢ []) ⊎ SayNothing (matches_of command_of_words words)
-
-abbrev pub AreRefused : List Text → Type 0
-AreRefused words = ArePlainlyRefused (plain_words words)
+-- they are taken, and say nothing that there is
+pub record AskNothing (call : Call) (misfit : Misfit) : Type 0 where
+  pub rows : List Row
+  pub takes : Takes call rows
+  pub says : SayNothing rows

@@ -1,6 +1,6 @@
 -- From a recording to what the chain hears of it, and the tape that it makes.
 use Rattle.std.specs.Prelude.{◌≡◌, ◌^◌, ◌-◌, ◌<◌, ℕ, List, [], ◌∷◌, Some, min, slice_get, false, true}
-use Rattle.clap.specs.Walk.{Text}
+use Rattle.xb_command.specs.declared.table.Call.{Call}
 use Rattle.xb_model.specs.Records.{joined, record_of}
 use Rattle.xb_model.specs.Rows.{LoopRow}
 use Rattle.xb_contact.specs.declared.event.Event.{Event}
@@ -16,8 +16,8 @@ use Rattle.xb_contact.specs.Settled.{settled}
 use Rattle.xb_contact.specs.Times.{rounded}
 use Rattle.xb_feed.specs.declared.manner.AskedLine.{AskedLine}
 use Rattle.xb_loop.specs.declared.common.Common.{Common}
+use Rattle.xb_loop.specs.declared.words.Asked.{Asked}
 use Rattle.xb_feed.specs.declared.manner.Manner.{Manner}
-use Rattle.xb_feed.specs.declared.request.Request.{Request}
 use Rattle.xb_loop.specs.Options.{Asks}
 use Rattle.xb_loop.specs.RowsOfHolds.{rows_of_holds, runs_of_holds}
 use Rattle.xb_feed.specs.Tallies.{bounces_in}
@@ -124,6 +124,6 @@ TellsTheLostEdges =
 -- words name no line twice
 abbrev pub AsksForEachOnce : Type 0
 AsksForEachOnce =
-    (words : List Text) (request : Request Common) → Asks words request → (wire : ℕ) (asked : AskedLine)
-    → slice_get request.lines.items wire ≡ Some asked
-    → IsAlone wire asked.number (numbers_asked request.lines.items)
+    (call : Call) (asks : Asked) → Asks call asks → (wire : ℕ) (asked : AskedLine)
+    → slice_get asks.request.lines.items wire ≡ Some asked
+    → IsAlone wire asked.number (numbers_asked asks.request.lines.items)

@@ -43,6 +43,8 @@ IsFaultOfTable files (Some name) (faults.Recording fault) = ⊥
 IsFaultOfTable files (Some name) (faults.NoWire fault wire) = ⊥
 IsFaultOfTable files (Some name) (faults.NoLine listing) = ⊥
 IsFaultOfTable files (Some name) (faults.Unlisted fault) = ⊥
+IsFaultOfTable files (Some name) faults.Wires = ⊥
+IsFaultOfTable files (Some name) faults.More = ⊥
 IsFaultOfTable files (Some name) faults.Tell = ⊥
 
 -- the fault of a table that is refused

@@ -2,12 +2,12 @@
 ghost use Rattle.std.specs.Prelude.{◌≡◌};
 
 use crate::wires::AllWires;
+use crate::{ListFault, Listing};
 use std::alloc::AllocError;
 use std::io;
 use thiserror::Error;
 use xb_feed::{InOneLine, RecordingFault};
 use xb_routes::RouteFault;
-use xb_wires::{ListFault, Listing};
 
 /// Why the program writes no deck, or no further rows of it.
 #[derive(Debug, Drop, Error)]
@@ -27,9 +27,15 @@ pub enum LoopFault<'a> {
     /// No line is asked for; the wires of the recording, in one line.
     #[error("no line is asked for; the recording has {}", AllWires(.0))]
     NoLine(Listing),
-    /// No line is asked for, and the wires cannot be listed.
+    /// No line is asked for, or the wires are, and they cannot be listed.
     #[error("{0}")]
     Unlisted(ListFault),
+    /// The wires could not be written whole.
+    #[error("the wires could not be written")]
+    Wires,
+    /// The wires were written, and it could not be told that there are more.
+    #[error("that there are more wires could not be told")]
+    More,
     /// All rows were written, and the bounces could not be told of.
     #[error("the bounces could not be told of")]
     Tell,

@@ -1,10 +1,11 @@
 //! What the chain hears of a contact, as the contracts of functions that do nothing. The definitions are in `specs/`:
 //! `RowsOfHolds` (the rows that are written), and the statements in `HeardLaws` and `TapeLaws`.
 ghost use Rattle.xb_loop.specs.HeardLaws.{HearsEachCleanRun, HearsTheCleanRecord, HearsTheSettledRecord};
-ghost use Rattle.xb_loop.specs.RecordingLaws.{AsksForEachOnce, HearsTheRecording, KeepsTheTapeOfRecordings, KeepsTheTapeOfSeizures};
-ghost use Rattle.xb_loop.specs.RecordingLaws.{KeepsTheTapeOfNights, KeepsTheTapeUnlessAsked, TellsTheLostEdges, TellsTheShortRuns};
+ghost use Rattle.xb_loop.specs.RecordingLaws.{AsksForEachOnce, HearsTheRecording, KeepsTheTapeOfRecordings, KeepsTheTapeOfSeizures, KeepsTheTapeOfNights, KeepsTheTapeUnlessAsked, TellsTheLostEdges, TellsTheShortRuns};
 ghost use Rattle.xb_loop.specs.WireRecords.{GivesEachRecord};
 ghost use Rattle.xb_loop.specs.TapeLaws.{HearsNothingOtherwise, KeepsTheTape, LeavesLongRunsTheirTape};
+ghost use Rattle.xb_loop.specs.Constants.{AreConstants};
+ghost use Rattle.xb_loop.specs.Counts.{EdgesAreSeen};
 
 /// The record that the chain makes of a line's rows, neighbours joined, is the settled record of its contact in
 /// ms, each time rounded once. So where short bounces disturb a clean record, the chain hears the clean one,
@@ -53,4 +54,15 @@ pub fn the_tape_of_a_recording_is_kept()
     ensures told { TellsTheShortRuns }
     ensures lost { TellsTheLostEdges }
     ensures once { AsksForEachOnce }
+{}
+
+/// How many names are kept, and of how many columns the numbers are taken.
+pub fn constants()
+    ensures { AreConstants }
+{}
+
+/// What is counted of a wire are its edges: the levels that are said of it, or those that are other ones than the
+/// one before, up to 2^64 - 1.
+pub fn edges_are_seen()
+    ensures { EdgesAreSeen }
 {}

@@ -1,32 +1,31 @@
 // The program: its words and a recording in, a status and rows out.
-ghost use Rattle.std.specs.Prelude.{◌≡◌, ◌==◌, false, IfErr, IfOk, IfSome, OnOk, length, map, string_bytes};
+ghost use Rattle.std.specs.Prelude.{◌≡◌, ◌==◌, false, IfErr, IfOk, IfSome, OnOk, length, map, string_bytes, true};
 ghost use Rattle.xb_command.specs.Programs.{streams};
-ghost use Rattle.xb_command.specs.Commands.{texts_of};
-ghost use Rattle.xb_loop.specs.Program.{AttendsLoop, FailsToPrint, IsFaultOfRecording, IsListed, PrintsDeck, TellsOfBounces, TellsWires};
+ghost use Rattle.xb_command.specs.Tables.{command_by};
+ghost use Rattle.xb_command.specs.Works.{AttendsBy, Runs};
+ghost use Rattle.clap.specs.Faults.{is_simple_and_free};
+ghost use Rattle.xb_loop.specs.Program.{DeliversWires, FailsToList, FailsToPrint, HadFault, IsFaultOfRecording, IsListed, PrintsDeck, TellsMore, TellsOfBounces, TellsWires, WritesListing, WritesRows, WritesWires, by_loop};
 
 use crate::common::Common;
 use crate::contact::Contact;
 use crate::fault::LoopFault;
+use crate::listed::listing_text;
 use crate::table::beginning_of;
-use crate::words::request_of_words;
+use crate::words::{Asked, asked_of};
+use crate::{Listing, list_wires};
 use std::alloc::Global;
 use std::io::{Read, Write};
-use xb_command::{DONE, Files, WordsFault, tell_fault, tell_words};
-use xb_feed::{AskedLine, RecordingFault, Request, listen, missing_name, plain_words};
+use xb_command::{
+    Answer, Call, DONE, Files, Program, Source, Work, ask_words, file_source, tell_fault,
+};
+use xb_feed::{AskedLine, RecordingFault, Request, listen, missing_name};
 use xb_text::write_whole;
-use xb_wires::list_wires;
-
-// The program's name.
-pub(crate) const PROGRAM: &str = "mfloop";
 
 // The line before the rows.
 const HEADER: &[u8] = b"line,state,ms\n";
 
-// The line of refused words.
-const USAGE: &[u8] =
-    b"mfloop: usage: mfloop --line N=WIRE[,inverted][,settle=MS][,seize=MS][,ringing]... \
-[--table FILE] [--format vcd|sigrok|saleae|edges|gpiomon|bits|bits16|s16|wav] [--rate HZ] [--settle MS] \
-[--seize MS] [--ringing] [--tick MS] [--threshold PERCENT] [--inverted] [--said] [--lossy]\n";
+// What is told where a recording has more wires.
+const MORE: &[u8] = b"mfloop: the recording has more wires than these 32\n";
 
 // The fault of a recording; where it lacks a wire, with the first name that is asked for and that it lacks.
 fn fault_of_recording<'a>(fault: RecordingFault, names: &[&'a str]) -> LoopFault<'a>
@@ -62,7 +61,7 @@ fn no_line<'a, R: Read>(
 }
 
 // Writes the rows that are asked for, after a route table, if one is; its release limit is that of the lines.
-fn run<'a, F: Files, R: Read, W: Write>(
+fn print<'a, F: Files, R: Read, W: Write>(
     alloc: Global,
     files: &F,
     mut request: Request<'a, Common>,
@@ -87,49 +86,150 @@ fn run<'a, F: Files, R: Read, W: Write>(
 }
 
 // Tells of the bounces, if there is anything to tell, and returns the status of the process.
-fn tell_bounces<E: Write>(alloc: Global, err: &mut E, told: &str) -> u8
-    ensures { TellsOfBounces told.now (E.contents err.old) (E.contents err.new) result }
+fn tell_bounces<E: Write>(alloc: Global, err: &mut E, program: &str, told: &str) -> u8
+    ensures { TellsOfBounces program.now told.now (E.contents err.old) (E.contents err.new) result }
 {
     if told.is_empty() || write_whole(err, told.as_bytes()).is_ok() {
         return DONE;
     }
-    tell_fault(alloc, err, PROGRAM, LoopFault::Tell)
+    tell_fault(alloc, err, program, LoopFault::Tell)
 }
 
-/// Reads the words of the command line, the program's name first, and by them writes the loop rows of a
-/// recording as it comes, as `listen` does, after a route table where one is named. It returns the status of the
-/// process:
-///
-/// - `DONE`: the words ask for something, `out` got the rows, and `err` all that is told of the bounces, if that is
-///   asked for;
-/// - `FAULT`: no line is asked for, and the line has the wires of the recording, with their edges; or
-///   the table or the recording has a fault, which `listen` has, or memory ran out while the words were read;
-///   `err` gets the fault as one line, and `out` got the rows before it, or nothing; or all rows were written, and the
-///   bounces could not be told of;
-/// - `WORDS_REFUSED`: the words are refused, or ask for help; `err` gets the usage as one line, the recording
-///   is not read and `out` got nothing.
-///
-/// A fault in writing any other line to `err` changes no status.
-pub fn attend<F: Files, R: Read, W: Write, E: Write>(
+// Writes the rows that are asked for, tells of the bounces, and returns the status of the process.
+fn answer_rows<F: Files, R: Read, W: Write, E: Write>(
     alloc: Global,
-    words: &[String],
     files: &F,
+    request: Request<'_, Common>,
+    program: &Program<'_>,
     recording: &mut R,
     out: &mut W,
     err: &mut E,
 ) -> u8
-    ensures { AttendsLoop (F.bytes files.now) (texts_of words.now)
+    ensures { Runs (WritesRows (F.bytes files.now) request.entry)
+        (HadFault program.now.name.now (F.bytes files.now) request.entry)
         (streams (R.remaining recording.old) (W.contents out.old) (E.contents err.old))
         (streams (R.remaining recording.new) (W.contents out.new) (E.contents err.new)) result }
 {
-    let Ok(words) = plain_words(alloc, words) else {
-        return tell_words(err, PROGRAM, USAGE, WordsFault::NoMemory);
-    };
-    match request_of_words(alloc, &words) {
-        Ok(request) => match run(alloc, files, request, recording, out) {
-            Ok(told) => tell_bounces(alloc, err, &told),
-            Err(fault) => tell_fault(alloc, err, PROGRAM, fault),
-        },
-        Err(fault) => tell_words(err, PROGRAM, USAGE, fault),
+    match print(alloc, files, request, recording, out) {
+        Ok(told) => tell_bounces(alloc, err, program.name, &told),
+        Err(fault) => tell_fault(alloc, err, program.name, fault),
     }
+}
+
+// Writes the wires of a listing, a line each, and says whether there are more.
+fn write_wires<'a, W: Write>(
+    alloc: Global,
+    listing: &Listing,
+    out: &mut W,
+) -> Result<bool, LoopFault<'a>>
+    ensures { WritesListing listing.now result (W.contents out.old) (W.contents out.new) }
+{
+    match listing_text(alloc, listing) {
+        Ok(text) => match write_whole(out, text.as_bytes()) {
+            Ok(()) => Ok(listing.wires.are_more),
+            Err(_) => Err(LoopFault::Wires),
+        },
+        Err(_) => Err(LoopFault::NoMemory),
+    }
+}
+
+// Writes the wires of a recording, a line each, and says whether there are more.
+fn print_wires<'a, R: Read, W: Write>(
+    alloc: Global,
+    request: &Request<'a, Common>,
+    recording: &mut R,
+    out: &mut W,
+) -> Result<bool, LoopFault<'a>>
+    ensures { DeliversWires request.now (R.remaining recording.old) result
+        (W.contents out.old) (W.contents out.new) }
+{
+    let sound = (request.wanted.rate, request.wanted.threshold);
+    match list_wires(alloc, request.format, sound, recording) {
+        Ok(listing) => write_wires(alloc, &listing, out),
+        Err(fault) => Err(LoopFault::Unlisted(fault)),
+    }
+}
+
+// Tells that there are more wires, if there are, and returns the status of the process.
+fn tell_more<E: Write>(alloc: Global, err: &mut E, program: &str, are_more: bool) -> u8
+    ensures { TellsMore program.now are_more (E.contents err.old) (E.contents err.new) result }
+{
+    if !are_more {
+        return DONE;
+    }
+    match write_whole(err, MORE) {
+        Ok(()) => DONE,
+        Err(_) => tell_fault(alloc, err, program, LoopFault::More),
+    }
+}
+
+// Writes the wires of a recording, tells whether there are more, and returns the status of the process.
+fn answer_wires<R: Read, W: Write, E: Write>(
+    alloc: Global,
+    request: &Request<'_, Common>,
+    program: &Program<'_>,
+    recording: &mut R,
+    out: &mut W,
+    err: &mut E,
+) -> u8
+    ensures { Runs (WritesWires request.now) (FailsToList program.now.name.now request.now)
+        (streams (R.remaining recording.old) (W.contents out.old) (E.contents err.old))
+        (streams (R.remaining recording.new) (W.contents out.new) (E.contents err.new)) result }
+{
+    match print_wires(alloc, request, recording, out) {
+        Ok(are_more) => tell_more(alloc, err, program.name, are_more),
+        Err(fault) => tell_fault(alloc, err, program.name, fault),
+    }
+}
+
+impl<'a> Work<'a> for Asked<'a> {
+    ghost use Rattle.xb_loop.specs.Program.{by_loop};
+
+    ghost rules = { by_loop };
+
+    fn ask(alloc: Global, call: &Call<'a>) -> Result<Asked<'a>, Answer<'a>> {
+        match ask_words(alloc, call) {
+            Ok(words) => asked_of(alloc, &words),
+            Err(answer) => Err(answer),
+        }
+    }
+
+    fn source(&self) -> Source<'a> {
+        file_source(self.request.recording)
+    }
+
+    fn run<F: Files, R: Read, W: Write, E: Write>(
+        self,
+        alloc: Global,
+        program: &Program<'a>,
+        files: &F,
+        input: &mut R,
+        out: &mut W,
+        err: &mut E,
+    ) -> u8 {
+        if self.list {
+            answer_wires(alloc, &self.request, program, input, out, err)
+        } else {
+            answer_rows(alloc, files, self.request, program, input, out, err)
+        }
+    }
+}
+
+/// Reads the words of the command line, and by them writes the loop rows of a recording as it comes, as `listen` does,
+/// after a route table where one is named, or its wires, as `list_wires` tells them. It returns the status of the
+/// process, as `attend` of `xb_command` says.
+pub fn attend<F: Files, R: Read, W: Write, E: Write>(
+    alloc: Global,
+    call: &Call<'_>,
+    files: &F,
+    input: &mut R,
+    out: &mut W,
+    err: &mut E,
+) -> u8
+    requires { is_simple_and_free (command_by call.now.program.now) ≡ true }
+    ensures { AttendsBy by_loop call.now (F.bytes files.now)
+        (streams (R.remaining input.old) (W.contents out.old) (E.contents err.old))
+        (streams (R.remaining input.new) (W.contents out.new) (E.contents err.new)) result }
+{
+    xb_command::attend::<Asked<'_>, F, R, W, E>(alloc, call, files, input, out, err)
 }

@@ -1,14 +1,19 @@
 // The wires of a recording, as they are told.
+ghost use Rattle.std.specs.Prelude.{◌≡◌, option_map};
+ghost use Rattle.xb_loop.specs.WireLines.{edges_at};
+
+use crate::Listing;
 use std::fmt;
 use xb_feed::InOneLine;
-use xb_wires::Listing;
 
 /// The names of wires in one line, each with its edges, where these were counted.
 #[derive(Clone, Copy)]
 pub(crate) struct AllWires<'b>(pub(crate) &'b Listing);
 
-// The edges of the wire of this number, if they were counted.
-fn edges_at(edges: &Option<Vec<u64>>, wire: usize) -> Option<u64> {
+/// The edges of the wire of this number, if they were counted.
+pub(crate) fn edges_at(edges: &Option<Vec<u64>>, wire: usize) -> Option<u64>
+    ensures { result ≡ edges_at (option_map (λ all. all.items) edges.now) wire }
+{
     match edges {
         Some(edges) => edges.get(wire).copied(),
         None => None,

@@ -10,3 +10,7 @@ pub mod TapeSteps
 pub mod BlankSteps
 pub mod OnsetSteps
 pub mod Received
+pub mod DoubtTexts
+pub mod EntryValues
+pub mod BlockSums
+pub mod TakenBlocks

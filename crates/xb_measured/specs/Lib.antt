@@ -16,3 +16,11 @@ pub mod Lines
 pub mod Worked
 pub mod Constants
 pub mod Nearest
+pub mod Keyings
+pub mod Doubts
+pub mod DoubtLines
+pub mod Entries
+pub mod KeyingConstants
+pub mod ButtonBlocks
+pub mod ButtonLines
+pub mod WorkedButtons

@@ -2,6 +2,10 @@
 ghost use Rattle.xb_measured.specs.Constants.{AreConstants};
 ghost use Rattle.xb_measured.specs.Nearest.{TenthsAreNearest};
 ghost use Rattle.xb_measured.specs.Worked.{LevelsAreAsWorked};
+ghost use Rattle.xb_measured.specs.KeyingConstants.{KeyingsAreBounded};
+ghost use Rattle.xb_measured.specs.WorkedButtons.{DigitsAreTold, KeysAreNoDigits};
+ghost use Rattle.std.specs.Prelude.{◌≡◌};
+ghost use Rattle.xb_measured.specs.declared.button_block.TheConstants.{LEAST_LEVEL, SHARE, SHARE_OF, TWIST};
 
 /// The times and levels of System R1, each as it is.
 pub fn constants()
@@ -16,4 +20,27 @@ pub fn levels_are_as_worked()
 /// The tenths of a dB of each level below 10^13, and so of all that the ear measures, are the nearest to its decibels.
 pub fn tenths_are_nearest()
     ensures { TenthsAreNearest }
+{}
+
+/// The most digits of a keying, and the longest time between its keys that is no doubt, as they are.
+pub fn keyings_are_bounded()
+    ensures { KeyingsAreBounded }
+{}
+
+/// In a block of each of the sixteen digits one sounds.
+pub fn digits_are_told()
+    ensures { DigitsAreTold }
+{}
+
+/// In a block of each of the fifteen pairs of MF keys none does.
+pub fn keys_are_no_digits()
+    ensures { KeysAreNoDigits }
+{}
+
+/// What a digit of a push-button telephone has: the least level of a tone, the most twist, and its share of the power.
+pub fn buttons_are_bounded()
+    ensures least_level { LEAST_LEVEL ≡ 250000 }
+    ensures twist { TWIST ≡ 16 }
+    ensures share { SHARE ≡ 3 }
+    ensures share_of { SHARE_OF ≡ 4 }
 {}

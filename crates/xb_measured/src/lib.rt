@@ -18,11 +18,36 @@
 //! - `end_ms`: when a key ended. `seconds_text`: a time in seconds.
 //! - `laws::tenths_are_nearest`: the tenths of a dB of a level are the nearest to its decibels.
 //!   `levels_are_as_worked`: levels in dBm0, as worked by hand.
+//!
+//! What is told of the keyings that were heard in a sound: what is doubtful of each, and an object of JSON.
+//!
+//! - `NamedKey`: a key that was heard, and what it stands for. `write_loose`: the line of one that is in no keying.
+//! - `doubts_text`: a line for each doubt of a keying (`doubts_of`), with what may be wrong by it: one key may be missing
+//!   where two lie over `MOST_GAP_MS` apart or one lasts too long, one digit too many where it is too short, and a KP or
+//!   an ST that is too short may be cut.
+//! - `began_ms` and `ended_ms`: when a keying begins and ends.
+//! - `entry_object`: exactly the object of a keying as an entry, with its place in the sound, its digits and its
+//!   doubts. `entry_line`: the same as a line.
+//!
+//! Whether the digits of a push-button telephone (DTMF) sound in samples, and for how long. They are no MF keys, though
+//! some come near them.
+//!
+//! - `Buttons`: in how many blocks of 20 ms a digit sounds, one of the four low frequencies and one of the four high
+//!   ones (`digit_blocks`).
+//! - `buttons_line`: the line that tells of them, or no line where there are none.
 #![tactic(auto)]
 
 mod blanks;
+mod button_block;
+mod button_line;
+mod buttons;
+mod correlation;
+mod doubt_lines;
+mod doubts;
+mod entries;
 mod figures;
 mod heard;
+mod keys;
 pub mod laws;
 mod levels;
 mod lines;
@@ -38,8 +63,14 @@ mod tones;
 mod verdicts;
 mod waves;
 
+pub use button_line::buttons_line;
+pub use buttons::{BLOCK, Buttons};
+pub use doubt_lines::{began_ms, doubts_text};
+pub use doubts::{Doubt, DoubtKind, Effect, MOST_GAP_MS, doubts_of};
+pub use entries::{ended_ms, entry_line, entry_object};
 pub use figures::{Figures, end_ms, figures_of, start_ms};
 pub use heard::{Heard, MeasuredTone, Onsets};
+pub use keys::{MOST_DIGITS, NamedKey};
 pub use lines::text_line;
 pub use meaning::Meaning;
 pub use meter::Meter;

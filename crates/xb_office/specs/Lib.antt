@@ -3,3 +3,4 @@ pub mod Faults
 pub mod MadeDecks
 pub mod Options
 pub mod Program
+pub mod Usage

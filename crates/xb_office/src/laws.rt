@@ -2,7 +2,7 @@
 ghost use Rattle.std.specs.Prelude.{◌≡◌};
 ghost use Rattle.xb_office.specs.declared.options.TheConstants.{DEFAULT_RING, DEFAULT_SENDERS};
 ghost use Rattle.xb_office.specs.MadeDecks.{MadeDecksSayTheirPage};
-ghost use Rattle.xb_office.specs.Program.{UsageNamesEachOption};
+ghost use Rattle.xb_office.specs.Usage.{UsageNamesEachOption};
 
 /// The defaults of the options, each as it is.
 pub fn defaults()
@@ -11,7 +11,7 @@ pub fn defaults()
 {}
 
 /// The line of refused words names each option of the command.
-#[tactic(auto, unfolding(clap::proofs::OnLiterals::clap_on_literals, xb_command::specs::Usages::has_part))]
+#[tactic(auto, unfolding(clap::proofs::OnLiterals::clap_on_literals, crate::specs::Usage::has_part))]
 pub fn usage_names_each_option()
     ensures { UsageNamesEachOption }
 {}

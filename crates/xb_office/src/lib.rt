@@ -5,10 +5,12 @@
 //!   on any other fault nothing. A fault of the deck is the first that holds. None of them holds on `Ok`, on
 //!   `Write`, or where a post could not be started. The reader is read to its end, unless reading failed, the
 //!   deck is too long, or memory ran out. `operate_by` is the same past any gate.
-//! - `attend`: the status 0, 1 or 2, with what was written (`Attends` of `xb_command`). So words that are
-//!   refused never give a page. `attend_by` is the same past any gate.
+//! - `attend_call`: by the words as they were typed and the file that they name, the status 0, 1 or 2, with what was
+//!   written (`AttendsBy` of `xb_command`). So words that are refused never give a page.
+//! - `attend`: the same of options alone and a deck that is open; refused options tell the usage and nothing else.
+//!   `attend_by` is `attend` past any gate.
 //! - `laws::made_decks_say_their_page`: a deck that is made of a table and rows, and is not too long, says
-//!   their page.
+//!   their page. `laws::usage_names_each_option`: the line of refused words does.
 //!
 //! Not said: that there are as many posts, and rings as large, as the words say. `test_office` counts both by
 //! a gate.
@@ -23,8 +25,9 @@ mod words;
 
 pub use fault::OfficeFault;
 pub use office::{operate, operate_by};
-pub use options::{DEFAULT_RING, DEFAULT_SENDERS, Options};
-pub use program::{attend, attend_by};
+pub use options::{Asked, DEFAULT_RING, DEFAULT_SENDERS, Options};
+pub use program::{attend, attend_by, attend_call};
+pub use words::PROGRAM;
 pub use xb_command::{DONE, FAULT, WORDS_REFUSED};
 pub use xb_deck::MOST_DECK_BYTES;
 pub use xb_rows::{MOST_RECORDS, Scan, read_rows};

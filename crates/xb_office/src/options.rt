@@ -21,3 +21,12 @@ pub struct Options {
     pub ghost least_ring: { 1 ≤ ring },
     pub ghost most_ring: { ring ≤ GREATEST_CAPACITY },
 }
+
+/// What the words ask for.
+#[derive(Clone, Copy)]
+pub struct Asked<'a> {
+    /// The file of the deck; without it, or with `-`, the input.
+    pub deck: Option<&'a str>,
+    /// How the posts are made.
+    pub options: Options,
+}

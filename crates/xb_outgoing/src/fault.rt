@@ -1,8 +1,8 @@
 // Why a table is refused, or not read.
 ghost use Rattle.std.specs.Prelude.{◌≡◌};
 
-use std::io;
 use thiserror::Error;
+use xb_command::OpenFault;
 use xb_model::RowFault;
 use xb_routes::RouteFault;
 
@@ -27,10 +27,10 @@ pub enum OutgoingFault {
 
 /// Why a file has no table.
 #[derive(Debug, Drop, Error)]
-pub enum TableFault {
-    /// It could not be read.
+pub enum TableFault<'a> {
+    /// It could not be read, or is no text.
     #[error("the route table could not be read: {0}")]
-    File(io::Error),
+    File(OpenFault<'a>),
     /// Its text is refused.
     #[error("route table: {0}")]
     Text(OutgoingFault),

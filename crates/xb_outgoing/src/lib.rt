@@ -7,7 +7,7 @@
 //!   (`outgoing_of_text`). `laws::worked_tables` has tables and refusals.
 //! - `laws::tables_without_send`: of a table without `send` no trunk group takes dial pulses, and it is refused only
 //!   where the table is.
-//! - `read_table`: the same of a file.
+//! - `read_table`: the same of a file, or of standard input. A fault of the file names it.
 //! - `OutgoingTable::takes_pulses`, `is_dialled`: whether a trunk group takes dial pulses, and whether an order goes
 //!   out so.
 //! - `OutgoingTable::order_of`, `order_of_number`: the order of the route table, but that a call of no digits to a

@@ -1,5 +1,7 @@
 //! What the definitions give.
 ghost use Rattle.xb_page.specs.ReadBack.{PagesAreReadBack, PagesEndAtLf};
+ghost use Rattle.std.specs.Prelude.{◌≡◌};
+ghost use Rattle.xb_page.specs.declared.reading.TheConstants.{MOST_PAGE_BYTES};
 
 /// What is read of the page of tapes are the entries that it was printed from.
 #[tactic(auto, using(crate::proofs::PagesBack::pages_are_read_back))]
@@ -11,4 +13,9 @@ pub fn pages_are_read_back()
 #[tactic(auto, using(crate::proofs::LineEnds::pages_end_at_lf))]
 pub fn pages_end_at_lf()
     ensures { PagesEndAtLf }
+{}
+
+/// How many bytes a page has at most.
+pub fn constants()
+    ensures most_page_bytes { MOST_PAGE_BYTES ≡ 67108864 }
 {}

@@ -3,3 +3,4 @@ pub mod NumberLines
 pub mod KeyValues
 pub mod Keyed
 pub mod Sent
+pub mod Asked

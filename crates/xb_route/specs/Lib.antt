@@ -4,7 +4,6 @@ pub mod Answers
 pub mod Lines
 pub mod Objects
 pub mod Pages
-pub mod Rules
 pub mod Options
 pub mod Routing
 pub mod Program

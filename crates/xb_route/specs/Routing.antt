@@ -5,8 +5,8 @@ use Rattle.std.specs.Io.KnownBytes.{Appends, Keeps}
 use Rattle.xb_command.specs.Files.{Bytes}
 use Rattle.xb_outgoing.specs.declared.fault.TableFault.{TableFault}
 use Rattle.xb_outgoing.specs.declared.fault.TableFault.TheVariants as file
-use Rattle.xb_outgoing.specs.Files.{HasTable}
-use Rattle.xb_outgoing.specs.Tables.{Outgoing, outgoing_of_text}
+use Rattle.xb_outgoing.specs.Files.{HasTable, IsFaultOfTable}
+use Rattle.xb_outgoing.specs.Tables.{Outgoing}
 use Rattle.xb_text.specs.Reading.{IsLongerThan}
 use Rattle.xb_text.specs.Writing.{AppendsBeginning}
 use Rattle.xb_route.specs.declared.fault.RoutingFault.{RoutingFault}
@@ -44,16 +44,9 @@ HasSomeTable bytes name = (table : Outgoing) × HasTable bytes name table
 
 -- a fault of the table, as one of the office
 abbrev pub of_table : TableFault → RoutingFault
-of_table (file.File error) = fault.File error
+of_table (file.File f) = fault.File f
 of_table (file.Text f) = fault.Table f
 of_table file.NoMemory = fault.NoMemory
-
--- the file could not be read, or memory ran out, or this is the fault of its text
-abbrev pub IsFaultOfTable : Bytes → List ℕ → RoutingFault → Type 0
-IsFaultOfTable bytes name (fault.File error) = Unit {0}
-IsFaultOfTable bytes name fault.NoMemory = Unit {0}
-IsFaultOfTable bytes name (fault.Table f) = IfSome (bytes name) (λ text. outgoing_of_text text ≡ Err f)
-IsFaultOfTable bytes name f = ⊥
 
 -- the input could not be read, or memory ran out, or there are no numbers, or this is the fault of the words, or of
 -- the input
@@ -84,9 +77,10 @@ Delivers bytes request input (Ok u) old new =
     (printed : List ℕ) × Routes bytes request input printed × Appends old new printed
 Delivers bytes request input (Err fault.Write) old new =
     (printed : List ℕ) × Routes bytes request input printed × AppendsBeginning old new printed
-Delivers bytes request input (Err (fault.File error)) old new = Keeps old new
+Delivers bytes request input (Err (fault.File f)) old new =
+    Keeps old new × IsFaultOfTable bytes request.table.now (file.File f)
 Delivers bytes request input (Err (fault.Table f)) old new =
-    Keeps old new × IsFaultOfTable bytes request.table.now (fault.Table f)
+    Keeps old new × IsFaultOfTable bytes request.table.now (file.Text f)
 Delivers bytes request input (Err fault.NoMemory) old new = Keeps old new
 Delivers bytes request input (Err f) old new =
     Keeps old new × IsFaultOfNumbers (words_of request) input f × HasSomeTable bytes request.table.now

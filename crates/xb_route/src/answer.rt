@@ -1,5 +1,5 @@
 // What an office does with the digits of a number.
-ghost use Rattle.std.specs.Prelude.{◌≡◌, length};
+ghost use Rattle.std.specs.Prelude.{◌≡◌};
 ghost use Rattle.xb_model.specs.Numbers.{shortest_complete};
 ghost use Rattle.xb_route.specs.Answers.{answer_to, left_over, sent_as};
 ghost use Rattle.xb_route.specs.Pages.{AgreesWithPage};

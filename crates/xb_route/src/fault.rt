@@ -1,9 +1,9 @@
 // Why a text is no number, and why no number is routed.
 ghost use Rattle.std.specs.Prelude.{◌≡◌};
 
-use std::io;
 use thiserror::Error;
 use xb_calls::WrongByte;
+use xb_command::OpenFault;
 use xb_model::RowFault;
 use xb_outgoing::{OutgoingFault, TableFault};
 
@@ -24,10 +24,10 @@ pub enum NumberFault {
 /// Why no number is routed. The table comes first, then the numbers, and then the writing: a fault is told only where
 /// those before it have none. Memory may run out at any of them, which is always `NoMemory`.
 #[derive(Debug, Drop, Error)]
-pub enum RoutingFault {
-    /// The file of the table could not be read.
+pub enum RoutingFault<'a> {
+    /// The file of the table could not be read, or is no text.
     #[error("the route table could not be read: {0}")]
-    File(io::Error),
+    File(OpenFault<'a>),
     /// The table is refused.
     #[error("route table: {0}")]
     Table(OutgoingFault),
@@ -54,12 +54,12 @@ pub enum RoutingFault {
     Write,
 }
 
-impl From<TableFault> for RoutingFault {
+impl<'a> From<TableFault<'a>> for RoutingFault<'a> {
     ghost use Rattle.xb_route.specs.Routing.{of_table};
 
     ghost from_gives = { λ fault e. e ≡ of_table fault };
 
-    fn from(fault: TableFault) -> RoutingFault {
+    fn from(fault: TableFault<'a>) -> RoutingFault<'a> {
         match fault {
             TableFault::File(error) => RoutingFault::File(error),
             TableFault::Text(fault) => RoutingFault::Table(fault),

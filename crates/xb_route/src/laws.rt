@@ -1,7 +1,6 @@
 //! What the definitions give: each law is the contract of a function that does nothing.
 ghost use Rattle.xb_route.specs.Constants.{MostTextBytesIsRight};
 ghost use Rattle.xb_route.specs.Lines.{PagesWriteBodies};
-ghost use Rattle.xb_route.specs.Program.{UsageNamesTheOption};
 ghost use Rattle.xb_route.specs.Worked.{LinesOfNumbers, NumbersOfTexts, ObjectsOfNumbers};
 
 /// The most bytes of a text of numbers, as it is.
@@ -23,10 +22,4 @@ pub fn lines_of_numbers()
 /// The page's line of an entry is the line and the number, and then what is printed after a number.
 pub fn pages_write_bodies()
     ensures { PagesWriteBodies }
-{}
-
-/// The line of refused words names the option of the command.
-#[tactic(auto, unfolding(clap::proofs::OnLiterals::clap_on_literals, xb_command::specs::Usages::has_part))]
-pub fn usage_names_the_option()
-    ensures { UsageNamesTheOption }
 {}

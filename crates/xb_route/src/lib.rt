@@ -10,7 +10,7 @@
 //! - `route` and `attend`: with status 0 exactly the lines of the numbers were written, one for each number
 //!   and at least one, as text (`answer_line`) or as JSON (`object_line`). With status 1 one line was told,
 //!   and nothing was written but the beginning of the lines where a write failed. With status 2 the words are
-//!   refused.
+//!   refused: `clap` refuses them, or the table and the numbers would both be standard input.
 //! - `laws::pages_write_bodies`: the page's line of an entry is its line and number, followed by exactly what
 //!   a line of `mfroute` has after the number.
 //!
@@ -34,4 +34,4 @@ pub use numbers::number_of_text;
 pub use program::attend;
 pub use reading::MOST_TEXT_BYTES;
 pub use routing::route;
-pub use words::Request;
+pub use words::{PROGRAM, Request};

@@ -1,47 +1,64 @@
 // The program: its words, a file and numbers in, a status and lines out.
+ghost use Rattle.std.specs.Prelude.{◌≡◌, true};
+ghost use Rattle.clap.specs.Faults.{is_simple_and_free};
 ghost use Rattle.xb_command.specs.Programs.{streams};
-ghost use Rattle.xb_command.specs.Commands.{texts_of};
-ghost use Rattle.xb_route.specs.Program.{AttendsRoute};
+ghost use Rattle.xb_command.specs.Tables.{command_by};
+ghost use Rattle.xb_command.specs.Works.{AttendsBy};
+ghost use Rattle.xb_route.specs.Program.{by_route};
 
 use crate::routing::route;
-use crate::words::request_of_words;
+use crate::words::{Request, request_of};
 use std::alloc::Global;
 use std::io::{Read, Write};
-use xb_command::{DONE, Files, tell_fault, tell_words};
+use xb_command::{Answer, Call, DONE, Files, Program, Source, Work, ask_words, tell_fault};
 
-// The program's name.
-pub(crate) const PROGRAM: &str = "mfroute";
+impl<'a> Work<'a> for Request<'a> {
+    ghost use Rattle.xb_route.specs.Program.{by_route};
 
-// The line of refused words.
-const USAGE: &[u8] = b"mfroute: usage: mfroute [--json] TABLE [NUMBER...]\n";
+    ghost rules = { by_route };
 
-/// Reads the words of the command line, the program's name first, and by them writes what is done with each
-/// number, as `route` does. It returns the status of the process:
-///
-/// - `DONE`: the words ask for something, `out` got exactly the line of each number, and `err` nothing;
-/// - `FAULT`: `route` has a fault, or memory ran out while the words were read; `err` gets the fault as one
-///   line, and `out` got nothing, or the beginning of the lines where they could not be written;
-/// - `WORDS_REFUSED`: the words are refused, or ask for help; `err` gets the usage as one line, nothing is
-///   read and `out` got nothing.
-///
-/// A fault in writing to `err` changes no status.
+    #[tactic(auto, using(crate::proofs::Asked::it_asks, crate::proofs::Asked::nothing_is_wrong))]
+    fn ask(alloc: Global, call: &Call<'a>) -> Result<Request<'a>, Answer<'a>> {
+        match ask_words(alloc, call) {
+            Ok(words) => request_of(alloc, &words),
+            Err(answer) => Err(answer),
+        }
+    }
+
+    fn source(&self) -> Source<'a> {
+        Source::Input
+    }
+
+    fn run<F: Files, R: Read, W: Write, E: Write>(
+        self,
+        alloc: Global,
+        program: &Program<'a>,
+        files: &F,
+        input: &mut R,
+        out: &mut W,
+        err: &mut E,
+    ) -> u8 {
+        match route(alloc, files, &self, input, out) {
+            Ok(()) => DONE,
+            Err(fault) => tell_fault(alloc, err, program.name, fault),
+        }
+    }
+}
+
+/// Reads the words of the command line, and by them writes what is done with each number, as `route` does. It returns
+/// the status of the process, as `attend` of `xb_command` says.
 pub fn attend<F: Files, R: Read, W: Write, E: Write>(
     alloc: Global,
-    words: &[String],
+    call: &Call<'_>,
     files: &F,
     numbers: &mut R,
     out: &mut W,
     err: &mut E,
 ) -> u8
-    ensures { AttendsRoute (F.bytes files.now) (texts_of words.now)
+    requires { is_simple_and_free (command_by call.now.program.now) ≡ true }
+    ensures { AttendsBy by_route call.now (F.bytes files.now)
         (streams (R.remaining numbers.old) (W.contents out.old) (E.contents err.old))
         (streams (R.remaining numbers.new) (W.contents out.new) (E.contents err.new)) result }
 {
-    match request_of_words(alloc, words) {
-        Ok(request) => match route(alloc, files, &request, numbers, out) {
-            Ok(()) => DONE,
-            Err(fault) => tell_fault(alloc, err, PROGRAM, fault),
-        },
-        Err(fault) => tell_words(err, PROGRAM, USAGE, fault),
-    }
+    xb_command::attend::<Request<'_>, F, R, W, E>(alloc, call, files, numbers, out, err)
 }

@@ -1,6 +1,5 @@
 // From a table and numbers to what is done with them.
-ghost use Rattle.std.specs.Prelude.{◌≡◌, ◌≢◌, [], IfErr, IfOk, Err, Ok, map, string_bytes};
-ghost use Rattle.xb_route.specs.Options.{words_of};
+ghost use Rattle.std.specs.Prelude.{◌≡◌, [], IfErr, IfOk, Err, Ok, map};
 ghost use Rattle.xb_route.specs.Routing.{AreGiven, AreNumbers, Delivers, IsFaultOfNumbers, line_of, lines_of};
 ghost use Rattle.xb_route.specs.TextSteps.{digits_of_numbers};
 
@@ -18,7 +17,10 @@ use xb_outgoing::{OutgoingTable, read_table};
 use xb_text::{ReadFault, read_whole, write_whole};
 
 // The numbers of the input.
-fn read_numbers<R: Read>(alloc: Global, input: &mut R) -> Result<Vec<Vec<Digit>>, RoutingFault>
+fn read_numbers<'a, R: Read>(
+    alloc: Global,
+    input: &mut R,
+) -> Result<Vec<Vec<Digit>>, RoutingFault<'a>>
     ensures numbers { IfOk result (λ numbers.
         AreNumbers [] (R.remaining input.old) (Ok (digits_of_numbers numbers.items))) }
     ensures fault { IfErr result (IsFaultOfNumbers [] (R.remaining input.old)) }
@@ -37,11 +39,11 @@ fn read_numbers<R: Read>(alloc: Global, input: &mut R) -> Result<Vec<Vec<Digit>>
 }
 
 // The numbers of the words, or where there is none those of the input.
-fn numbers_given<R: Read>(
+fn numbers_given<'a, R: Read>(
     alloc: Global,
     words: &[&str],
     input: &mut R,
-) -> Result<Vec<Vec<Digit>>, RoutingFault>
+) -> Result<Vec<Vec<Digit>>, RoutingFault<'a>>
     ensures numbers { let texts = map (λ word. word.now) words.now in IfOk result (λ numbers.
         AreNumbers texts (R.remaining input.old) (Ok (digits_of_numbers numbers.items))) }
     ensures fault { let texts = map (λ word. word.now) words.now in
@@ -58,11 +60,11 @@ fn numbers_given<R: Read>(
 }
 
 // The same numbers, of which there is one at least.
-fn some_numbers<R: Read>(
+fn some_numbers<'a, R: Read>(
     alloc: Global,
     words: &[&str],
     input: &mut R,
-) -> Result<Vec<Vec<Digit>>, RoutingFault>
+) -> Result<Vec<Vec<Digit>>, RoutingFault<'a>>
     ensures numbers { let texts = map (λ word. word.now) words.now in IfOk result (λ numbers.
         AreGiven texts (R.remaining input.old) (digits_of_numbers numbers.items)) }
     ensures fault { let texts = map (λ word. word.now) words.now in
@@ -124,7 +126,7 @@ pub fn route<'a, F: Files, R: Read, W: Write>(
     request: &Request<'a>,
     input: &mut R,
     out: &mut W,
-) -> Result<(), RoutingFault>
+) -> Result<(), RoutingFault<'a>>
     ensures { Delivers (F.bytes files.now) request.now (R.remaining input.old) result
         (W.contents out.old) (W.contents out.new) }
 {

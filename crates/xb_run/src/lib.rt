@@ -12,7 +12,7 @@
 //!   post was served and the feed met no fault.
 //!
 //! Not said: that a thread starts or makes progress, that `run` ends, and which of several refused posts is
-//! named; `test_bank` tries these.
+//! named; `bank` of `test_office` tries these.
 #![tactic(auto)]
 
 mod branches;

@@ -3,8 +3,8 @@ use Rattle.std.proofs.Common.{◌≡◌, ◌≢◌, ◌∙◌, ◌==◌, true, f
 use Rattle.std.specs.Io.KnownBytes.{Appends}
 use Rattle.std.proofs.KnownBytes.{Keeps-refl}
 use Rattle.xb_text.specs.Writing.{AppendsBeginning}
-use Rattle.xb_compared.specs.Differences.{differences}
-use Rattle.xb_compared.specs.Entries.{KeyedEntry}
+use Rattle.xb_rx.specs.Differences.{differences}
+use Rattle.xb_rx.specs.Entries.{KeyedEntry}
 use Rattle.xb_measured.specs.Receivers.{keys_of_sound}
 use Rattle.xb_rx.specs.declared.comparing.CompareProgramFault.{CompareProgramFault}
 use Rattle.xb_rx.specs.declared.comparing.CompareProgramFault.TheVariants as compare_fault
@@ -19,7 +19,7 @@ use Rattle.xb_clock.specs.Clocks.{Clock}
 use Rattle.xb_rx.specs.Timed.{timing_by}
 use Rattle.xb_rx.specs.Reports.{Reported, on_page}
 use Rattle.xb_rx.proofs.WrittenText.{none-written}
-use Rattle.xb_wav.specs.Samples.{Sound}
+use Rattle.xb_rx.specs.Samples.{Sound}
 
 -- a text of no byte, and one of some
 pub empty-text : (text : List ℕ) → (length text == 0) ≡ true → text ≡ []
@@ -92,7 +92,7 @@ module _ (file : Option (List ℕ)) (how : Input) (bytes : Option (List ℕ)) wh
   -- a fault of the file, of which nothing was written
   pub file-fault : (f : CompareProgramFault) (a b : Option (List ℕ)) → IsFileFault file f
       → Compares file how bytes (Err f) (outputs a a b b)
-  file-fault (compare_fault.File e) a b is = (Keeps-refl a, inl (Keeps-refl b, is))
+  file-fault (compare_fault.File name e) a b is = (Keeps-refl a, inl (Keeps-refl b, is))
   file-fault (compare_fault.Keyed f) a b is = (Keeps-refl a, inl (Keeps-refl b, is))
   file-fault (compare_fault.Sound f) a b is = absurd is
   file-fault compare_fault.NoMemory a b is = (Keeps-refl a, inl (Keeps-refl b, is))
@@ -102,7 +102,7 @@ module _ (file : Option (List ℕ)) (how : Input) (bytes : Option (List ℕ)) wh
   -- one of the sound, of which only keys were told
   pub sound-fault : (f : CompareProgramFault) (a b d : Option (List ℕ)) → IsSoundFault how bytes f b d
       → Compares file how bytes (Err f) (outputs a a b d)
-  sound-fault (compare_fault.File e) a b d is = absurd is
+  sound-fault (compare_fault.File name e) a b d is = absurd is
   sound-fault (compare_fault.Keyed f) a b d is = absurd is
   sound-fault (compare_fault.Sound f) a b d is = (Keeps-refl a, inr is)
   sound-fault compare_fault.NoMemory a b d is = (Keeps-refl a, inr is)

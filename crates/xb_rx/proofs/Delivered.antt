@@ -12,9 +12,9 @@ use Rattle.xb_rx.specs.declared.fault.RxFault.TheVariants as fault
 use Rattle.xb_rx.specs.declared.request.Request.{Request}
 use Rattle.xb_rx.specs.declared.request.Written.{Written}
 use Rattle.xb_rx.specs.declared.request.Written.TheVariants as written
-use Rattle.xb_wav.specs.declared.wav_start.OpenFault.{OpenFault}
-use Rattle.xb_wav.specs.declared.wav_start.OpenFault.TheVariants as open_fault
-use Rattle.xb_wav.specs.declared.wav_start.Start.{Start}
+use Rattle.xb_rx.specs.declared.wav_start.OpenFault.{OpenFault}
+use Rattle.xb_rx.specs.declared.wav_start.OpenFault.TheVariants as open_fault
+use Rattle.xb_rx.specs.declared.wav_start.Start.{Start}
 use Rattle.xb_rx.specs.Faults.{of_open}
 use Rattle.xb_rx.specs.declared.request.Input.{Input}
 use Rattle.xb_rx.specs.Hearing.{Delivers, Hears, HearsBytes, HearsSound, Outputs, outputs, sound_after, sound_by, start_by}
@@ -23,8 +23,8 @@ use Rattle.xb_clock.specs.Clocks.{Clock}
 use Rattle.xb_rx.specs.Shown.{shown_of}
 use Rattle.xb_rx.specs.Timed.{Timing, timing_by}
 use Rattle.xb_rx.specs.Reports.{Reported, fresh_report}
-use Rattle.xb_wav.specs.Samples.{Sound, sound_of}
-use Rattle.xb_wav.specs.Starts.{Opens}
+use Rattle.xb_rx.specs.Samples.{Sound, sound_of}
+use Rattle.xb_rx.specs.Starts.{Opens}
 
 -- before the first key all is still to be written
 hears-written : (timing : Timing) (w : Written) (sound : Sound) (result : Result (Unit {0}) RxFault) (outs : Outputs)

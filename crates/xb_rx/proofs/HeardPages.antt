@@ -23,13 +23,13 @@ use Rattle.xb_page.specs.ReadBack.{AreMarks, entries_of_line, said_by}
 use Rattle.xb_page.specs.ReadPages.{entries_of_page}
 use Rattle.xb_page.proofs.CheckedEntries.{last_refusal-more}
 use Rattle.xb_page.proofs.PagesBack.{pages_are_read_back}
-use Rattle.xb_compared.specs.Keyed.{keyed_of, keyed_with, listed_keyed}
+use Rattle.xb_rx.specs.Keyed.{keyed_of, keyed_with, listed_keyed}
 use Rattle.xb_measured.specs.declared.heard.Heard.{Heard}
 use Rattle.xb_measured.specs.declared.meaning.Meaning.TheVariants as meaning
 use Rattle.xb_measured.specs.Meanings.{meaning_by, meaning_of}
-use Rattle.xb_told.specs.declared.keys.TheConstants.{MOST_DIGITS}
+use Rattle.xb_measured.specs.declared.keys.TheConstants.{MOST_DIGITS}
 use Rattle.xb_rx.specs.Comparing.{HeardIsPaged, as_paged}
-use Rattle.xb_told.specs.Keyings.{before_digits, digit_by, digit_of, digits_to_st, is_kp, is_st, keyings, one_more}
+use Rattle.xb_measured.specs.Keyings.{before_digits, digit_by, digit_of, digits_to_st, is_kp, is_st, keyings, one_more}
 use Rattle.xb_rx.specs.Placed.{Placed, numbers_of, placed}
 use Rattle.xb_rx.specs.Pages.{heard_after, page_after}
 use Rattle.xb_rx.proofs.PlacedKeyings.{numbers-placed}

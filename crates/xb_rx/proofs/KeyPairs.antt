@@ -6,7 +6,7 @@ use Rattle.xb_measured.specs.declared.meaning.Meaning.{Meaning}
 use Rattle.xb_measured.specs.declared.meaning.Meaning.TheVariants as meaning
 use Rattle.xb_measured.specs.Meanings.{meaning_of}
 use Rattle.xb_rx.specs.Begun.{IsDigit}
-use Rattle.xb_told.specs.Keyings.{begins_keying, digit_by, ends_keying, is_kp, is_st}
+use Rattle.xb_measured.specs.Keyings.{begins_keying, digit_by, ends_keying, is_kp, is_st}
 
 no-end : (m : Meaning) (d : ℕ) → digit_by m ≡ Some d → ends_keying m ≡ false
 no-end (meaning.Key (Digit x)) d is = refl

@@ -6,7 +6,7 @@ use Rattle.xb_text.specs.Writing.{AppendsBeginning}
 use Rattle.xb_measured.specs.declared.heard.Heard.{Heard}
 use Rattle.xb_rx.specs.declared.page.PageFault.{PageFault}
 use Rattle.xb_rx.specs.declared.begun.Step.TheVariants as steps
-use Rattle.xb_told.specs.Keyings.{is_keying}
+use Rattle.xb_measured.specs.Keyings.{is_keying}
 use Rattle.xb_rx.specs.Placed.{placed_of}
 use Rattle.xb_rx.specs.Begun.{IsBegun, broken, kept_after, step_of}
 use Rattle.xb_rx.specs.Pages.{Paged, Writes, WritesOf, loose_lines, page_rest, page_told, text_rest, told_parts}

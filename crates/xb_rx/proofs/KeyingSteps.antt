@@ -4,8 +4,8 @@ use Rattle.std.specs.Prelude.{if◌then◌else◌}
 use Rattle.std.specs.List.{AllByRecursion}
 use Rattle.std.proofs.lemmas.Bool.{cond-true, cond-false}
 use Rattle.xb_measured.specs.declared.heard.Heard.{Heard}
-use Rattle.xb_told.specs.declared.keys.TheConstants.{MOST_DIGITS}
-use Rattle.xb_told.specs.Keyings.{before_digits, digit_of, digits_in, digits_to_st, is_kp, is_st, keying_at, listed_digit, is_keying, is_loose, part_by, parts_after, parts_of, Part}
+use Rattle.xb_measured.specs.declared.keys.TheConstants.{MOST_DIGITS}
+use Rattle.xb_measured.specs.Keyings.{before_digits, digit_of, digits_in, digits_to_st, is_kp, is_st, keying_at, listed_digit, is_keying, is_loose, part_by, parts_after, parts_of, Part}
 use Rattle.xb_rx.specs.Begun.{IsDigit, kept_after}
 use Rattle.xb_rx.specs.Placed.{one_placed, placed, placed_of}
 use Rattle.xb_rx.proofs.KeyPairs.{digit-no-kp, digit-no-st, st-no-kp}

@@ -1,3 +1,10 @@
+pub mod Channels
+pub mod Filters
+pub mod Samples
+pub mod Walks
+pub mod Sounds
+pub mod SmallWeights
+pub mod Slides
 pub mod KeyPairs
 pub mod KeyingSteps
 pub mod PlacedKeyings
@@ -13,5 +20,6 @@ pub mod PagedKeys
 pub mod HeardPages
 pub mod Delivered
 pub mod Compared
-pub mod Answered
-pub mod AskedPages
+pub mod Formed
+pub mod Unlike
+pub mod DifferenceSteps

@@ -4,7 +4,7 @@ use Rattle.std.proofs.lemmas.List.{append-nil}
 use Rattle.std.proofs.lemmas.List.Folds.{list_any-append}
 use Rattle.xb_measured.specs.declared.heard.Heard.{Heard}
 use Rattle.xb_measured.specs.Receivers.{listed}
-use Rattle.xb_told.specs.Keyings.{is_kp}
+use Rattle.xb_measured.specs.Keyings.{is_kp}
 use Rattle.xb_rx.specs.Listeners.{has_kp, has_kp_with, is_keyed, is_keyed_with}
 
 pub keyed-more : (keys : List Heard) (key : Option Heard) → is_keyed_with (is_keyed keys) key ≡ is_keyed (keys ++ listed key)

@@ -7,7 +7,7 @@ use Rattle.xb_text.proofs.Beginnings.{AppendsBeginning-first}
 use Rattle.xb_measured.specs.declared.heard.Heard.{Heard}
 use Rattle.xb_measured.specs.Receivers.{listed}
 use Rattle.xb_measured.specs.Figures.{figures_of}
-use Rattle.xb_told.specs.Keyings.{Part, is_keying, keying_at, part_by, parts_after, parts_of}
+use Rattle.xb_measured.specs.Keyings.{Part, is_keying, keying_at, part_by, parts_after, parts_of}
 use Rattle.xb_rx.specs.declared.begun.Step.{Step}
 use Rattle.xb_rx.specs.declared.begun.Step.TheVariants as steps
 use Rattle.xb_rx.specs.declared.timed.ReportFault.{ReportFault}

@@ -16,10 +16,10 @@ use Rattle.xb_ear.specs.HeardKeys.{tones_of}
 use Rattle.xb_measured.specs.Receivers.{keys_of_sound, pairs_in}
 use Rattle.xb_measured.proofs.Received.{pairs-same}
 use Rattle.xb_ear.proofs.WholeSounds.{disturbed_keys_are_heard}
-use Rattle.xb_told.specs.declared.keys.TheConstants.{MOST_DIGITS}
+use Rattle.xb_measured.specs.declared.keys.TheConstants.{MOST_DIGITS}
 use Rattle.xb_measured.specs.declared.meaning.Meaning.TheVariants as meaning
 use Rattle.xb_measured.specs.Meanings.{meaning_of}
-use Rattle.xb_told.specs.Keyings.{begins_keying, digit_by, digit_of, digits_in, ends_keying, is_kp, is_st, keyings, listed_digit, listed_loose, loose_keys, parts_after, Part}
+use Rattle.xb_measured.specs.Keyings.{begins_keying, digit_by, digit_of, digits_in, ends_keying, is_kp, is_st, keyings, listed_digit, listed_loose, loose_keys, parts_after, Part}
 use Rattle.xb_rx.specs.PagedKeys.{AreNumbers, KeyedIsPaged, marks_of_numbers}
 use Rattle.xb_rx.specs.Pages.{page_after}
 use Rattle.xb_rx.specs.Placed.{numbers_of}

@@ -8,7 +8,7 @@ use Rattle.xb_text.proofs.Beginnings.{AppendsBeginning-first}
 use Rattle.xb_measured.specs.declared.heard.Heard.{Heard}
 use Rattle.xb_shown.specs.declared.heading.Title.TheVariants as title
 use Rattle.xb_shown.specs.Pictures.{Part, below_parts, nothing_drawn, part_of, parts_text, picture_of, picture_rest, picture_text}
-use Rattle.xb_told.specs.Keyings.{Part as KeyPart, parts_of}
+use Rattle.xb_measured.specs.Keyings.{Part as KeyPart, parts_of}
 use Rattle.xb_rx.specs.declared.begun.Step.TheVariants as steps
 use Rattle.xb_rx.specs.declared.page.PageFault.{PageFault}
 use Rattle.xb_rx.specs.Begun.{IsBegun, broken, kept_after, step_of}

@@ -3,10 +3,10 @@ use Rattle.std.proofs.Common.{◌≡◌, ◌∙◌, ℕ, ◌+◌, Bool, true, fa
 use Rattle.std.specs.Prelude.{if◌then◌else◌}
 use Rattle.std.specs.List.{AllByRecursion}
 use Rattle.xb_model.specs.Keyings.{keying}
-use Rattle.xb_compared.specs.Entries.{KeyedEntry}
+use Rattle.xb_rx.specs.Entries.{KeyedEntry}
 use Rattle.xb_measured.specs.declared.heard.Heard.{Heard}
-use Rattle.xb_told.specs.declared.keys.TheConstants.{MOST_DIGITS}
-use Rattle.xb_told.specs.Keyings.{digits_to_st, is_kp, keying_at, keyings, one_more}
+use Rattle.xb_measured.specs.declared.keys.TheConstants.{MOST_DIGITS}
+use Rattle.xb_measured.specs.Keyings.{digits_to_st, is_kp, keying_at, keyings, one_more}
 use Rattle.xb_rx.specs.Comparing.{EntriesAreAtTheirKp, IsKeyedAt}
 use Rattle.xb_rx.specs.Pages.{heard_after}
 use Rattle.xb_rx.specs.Placed.{Placed, numbers_of, one_placed, placed}

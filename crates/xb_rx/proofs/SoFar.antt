@@ -12,8 +12,8 @@ use Rattle.xb_measured.proofs.Received.{keys-begin}
 use Rattle.xb_rx.specs.declared.listener.Listener.{Listener}
 use Rattle.xb_rx.specs.declared.page.PageFault.{PageFault}
 use Rattle.xb_rx.specs.declared.page.PageFault.TheVariants as page_fault
-use Rattle.xb_wav.specs.declared.source.StreamFault.{StreamFault}
-use Rattle.xb_wav.specs.declared.source.StreamFault.TheVariants as stream_fault
+use Rattle.xb_rx.specs.declared.source.StreamFault.{StreamFault}
+use Rattle.xb_rx.specs.declared.source.StreamFault.TheVariants as stream_fault
 use Rattle.xb_rx.specs.declared.timed.ReportFault.{ReportFault}
 use Rattle.xb_rx.specs.declared.timed.ReportFault.TheVariants as report_fault
 use Rattle.xb_rx.specs.Faults.{IsLateFault, of_page, of_report, of_stream}
@@ -22,8 +22,8 @@ use Rattle.xb_rx.specs.Pages.{Writes}
 use Rattle.xb_rx.specs.Reports.{Reported, report_rest, told_rest}
 use Rattle.xb_rx.specs.Hearing.{Hears, IsFaultOf, Outputs, outputs, told_rest_of}
 use Rattle.xb_rx.proofs.WrittenText.{all-written}
-use Rattle.xb_wav.specs.Samples.{Sound, sound_with}
-use Rattle.xb_wav.specs.Streams.{GivesSample}
+use Rattle.xb_rx.specs.Samples.{Sound, sound_with}
+use Rattle.xb_rx.specs.Streams.{GivesSample}
 
 -- what was written of keys, and of later ones
 module _ (text : Reported → List Heard → List ℕ) (first : Reported) where

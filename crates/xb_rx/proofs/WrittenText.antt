@@ -14,13 +14,13 @@ use Rattle.std.proofs.Math.Seq.{take-length}
 use Rattle.xb_text.specs.declared.writing.WriteFault.{WriteFault}
 use Rattle.xb_text.proofs.Beginnings.{AppendsBeginning-first}
 use Rattle.xb_measured.specs.declared.heard.Heard.{Heard}
-use Rattle.xb_told.specs.declared.keys.TheConstants.{MOST_DIGITS}
+use Rattle.xb_measured.specs.declared.keys.TheConstants.{MOST_DIGITS}
 use Rattle.xb_rx.specs.declared.begun.Step.TheVariants as steps
 use Rattle.xb_rx.specs.declared.page.PageFault.{PageFault}
-use Rattle.xb_told.specs.Keyings.{digit_of, is_kp, is_st, is_keying, is_loose, Part, parts_after, parts_of}
+use Rattle.xb_measured.specs.Keyings.{digit_of, is_kp, is_st, is_keying, is_loose, Part, parts_after, parts_of}
 use Rattle.xb_rx.specs.Begun.{IsDigit, IsBegun, broken, kept_after, step_of}
-use Rattle.xb_compared.specs.Entries.{KeyedEntry}
-use Rattle.xb_told.specs.DoubtLines.{doubts_text, loose_line}
+use Rattle.xb_rx.specs.Entries.{KeyedEntry}
+use Rattle.xb_measured.specs.DoubtLines.{doubts_text, loose_line}
 use Rattle.xb_rx.specs.Placed.{Placed, numbers_of, placed, placed_of}
 use Rattle.xb_rx.specs.Pages.{IsTextOf, Paged, Writes, WritesOf, heard_after, loose_lines, page_after, page_rest, page_told, text_after, text_rest, told_parts}
 use Rattle.xb_rx.proofs.KeyingSteps.{all_loose, breaks, breaks-parts, completes, completes-part, end-none, end-parts, goes-on, goes-parts}

@@ -2,10 +2,10 @@
 use Rattle.std.specs.Prelude.{ℕ, ◌≡◌, ◌+◌, ◌≤◌, ◌&&◌, List, [], ◌∷◌, ◌++◌, length, true, if◌then◌else◌, Some, is_some, nat_le}
 use Rattle.std.specs.List.{AllByRecursion}
 use Rattle.xb_measured.specs.declared.heard.Heard.{Heard}
-use Rattle.xb_told.specs.declared.keys.TheConstants.{MOST_DIGITS}
+use Rattle.xb_measured.specs.declared.keys.TheConstants.{MOST_DIGITS}
 use Rattle.xb_rx.specs.declared.begun.Step.{Step}
 use Rattle.xb_rx.specs.declared.begun.Step.TheVariants as step
-use Rattle.xb_told.specs.Keyings.{digit_of, is_kp, is_st}
+use Rattle.xb_measured.specs.Keyings.{digit_of, is_kp, is_st}
 
 abbrev pub IsDigit : Heard → Type 0
 IsDigit key = (d : ℕ) × (digit_of key ≡ Some d)

@@ -3,14 +3,14 @@ use Rattle.std.specs.Prelude.{◌≡◌, ◌≢◌, ◌⊎◌, ℕ, List, [], �
 use Rattle.std.specs.List.{AllByRecursion}
 use Rattle.std.specs.Io.KnownBytes.{Appends, Keeps}
 use Rattle.xb_text.specs.Writing.{AppendsBeginning}
-use Rattle.xb_compared.specs.Differences.{differences}
-use Rattle.xb_compared.specs.Entries.{KeyedEntry}
-use Rattle.xb_compared.specs.Keyed.{keys_text}
-use Rattle.xb_compared.specs.Pages.{IsFaultOf, IsKeyed}
+use Rattle.xb_rx.specs.Differences.{differences}
+use Rattle.xb_rx.specs.Entries.{KeyedEntry}
+use Rattle.xb_rx.specs.Keyed.{keys_text}
+use Rattle.xb_rx.specs.KeyedPages.{IsFaultOf, IsKeyed}
 use Rattle.xb_measured.specs.Figures.{start_ms}
 use Rattle.xb_model.specs.Keyings.{keying}
-use Rattle.xb_told.specs.declared.keys.TheConstants.{MOST_DIGITS}
-use Rattle.xb_told.specs.Keyings.{digits_to_st, is_kp}
+use Rattle.xb_measured.specs.declared.keys.TheConstants.{MOST_DIGITS}
+use Rattle.xb_measured.specs.Keyings.{digits_to_st, is_kp}
 use Rattle.xb_page.specs.LineEnds.{lf_ended}
 use Rattle.xb_measured.specs.declared.heard.Heard.{Heard}
 use Rattle.xb_measured.specs.Receivers.{keys_of_sound}
@@ -21,7 +21,7 @@ use Rattle.xb_rx.specs.declared.request.Request.{Request}
 use Rattle.xb_rx.specs.declared.request.Written.TheVariants as written
 use Rattle.xb_rx.specs.Hearing.{DeliversTimed, Outputs, outputs, sound_by, told_text_of}
 use Rattle.xb_rx.specs.Pages.{heard_entries, page_of}
-use Rattle.xb_wav.specs.Samples.{Sound}
+use Rattle.xb_rx.specs.Samples.{Sound}
 
 -- the keyed entries of the page in a file, whose lines end at LF or at CR LF, where its bytes are known
 abbrev pub HasKeyed : Option (List ℕ) → List KeyedEntry → Type 0
@@ -37,7 +37,7 @@ IsHeard how (Some bytes) heard old new =
 
 -- why a file gives no keyed entries
 abbrev pub IsFileFault : Option (List ℕ) → CompareProgramFault → Type 0
-IsFileFault file (fault.File e) = Unit {0}
+IsFileFault file (fault.File name e) = Unit {0}
 IsFileFault file (fault.Keyed f) = IfSome file (λ page. IsFaultOf (lf_ended page) f)
 IsFileFault file fault.NoMemory = Unit {0}
 IsFileFault file f = ⊥

@@ -8,12 +8,12 @@ use Rattle.xb_rx.specs.declared.page.PageFault.{PageFault}
 use Rattle.xb_rx.specs.declared.page.PageFault.TheVariants as page_fault
 use Rattle.xb_rx.specs.declared.timed.ReportFault.{ReportFault}
 use Rattle.xb_rx.specs.declared.timed.ReportFault.TheVariants as report_fault
-use Rattle.xb_wav.specs.declared.source.StreamFault.{StreamFault}
+use Rattle.xb_rx.specs.declared.source.StreamFault.{StreamFault}
 use Rattle.xb_rx.specs.declared.timed.ReportFault.{ReportFault}
 use Rattle.xb_rx.specs.declared.timed.ReportFault.TheVariants as report_fault
-use Rattle.xb_wav.specs.declared.source.StreamFault.TheVariants as stream_fault
-use Rattle.xb_wav.specs.declared.wav_start.OpenFault.{OpenFault}
-use Rattle.xb_wav.specs.declared.wav_start.OpenFault.TheVariants as open_fault
+use Rattle.xb_rx.specs.declared.source.StreamFault.TheVariants as stream_fault
+use Rattle.xb_rx.specs.declared.wav_start.OpenFault.{OpenFault}
+use Rattle.xb_rx.specs.declared.wav_start.OpenFault.TheVariants as open_fault
 
 abbrev pub of_stream : StreamFault → RxFault
 of_stream stream_fault.Read = fault.Read

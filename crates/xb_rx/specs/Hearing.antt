@@ -11,14 +11,14 @@ use Rattle.xb_rx.specs.declared.request.Input.{Input}
 use Rattle.xb_rx.specs.declared.request.Input.TheVariants as input
 use Rattle.xb_rx.specs.declared.request.Request.{Request}
 use Rattle.xb_rx.specs.declared.request.Written.{Written}
-use Rattle.xb_wav.specs.declared.wav_start.Start.{Start}
-use Rattle.xb_wav.specs.declared.wav_start.WavFault.{WavFault}
-use Rattle.xb_wav.specs.declared.wav_start.TheConstants.{UNKNOWN_SAMPLES}
+use Rattle.xb_rx.specs.declared.wav_start.Start.{Start}
+use Rattle.xb_rx.specs.declared.wav_start.WavFault.{WavFault}
+use Rattle.xb_rx.specs.declared.wav_start.TheConstants.{UNKNOWN_SAMPLES}
 use Rattle.xb_rx.specs.Listeners.{quiet_of}
 use Rattle.xb_rx.specs.Timed.{Timing, timing_by}
 use Rattle.xb_rx.specs.Reports.{Reported, report_rest, told_rest, told_text, written_text}
-use Rattle.xb_wav.specs.Samples.{IsForm, Sound, sound_of}
-use Rattle.xb_wav.specs.Starts.{start_of_file}
+use Rattle.xb_rx.specs.Samples.{IsForm, Sound, sound_of}
+use Rattle.xb_rx.specs.Starts.{start_of_file}
 
 -- what the output and the stream of errors had, and have
 pub record Outputs : Type 0 where

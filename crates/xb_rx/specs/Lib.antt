@@ -1,3 +1,8 @@
+pub mod Constants
+pub mod Samples
+pub mod Streams
+pub mod Starts
+pub mod Weights
 pub mod Faults
 pub mod Begun
 pub mod Placed
@@ -9,7 +14,10 @@ pub mod Listeners
 pub mod Reports
 pub mod Hearing
 pub mod Comparing
-pub mod Rules
 pub mod Options
 pub mod Program
 pub mod PagedKeys
+pub mod Entries
+pub mod Keyed
+pub mod Differences
+pub mod KeyedPages

@@ -1,12 +1,12 @@
 -- What is heard of a sound, and what is told of one without a key, or without a KP.
 use Rattle.std.specs.Prelude.{◌≡◌, ◌||◌, ◌-◌, ◌^◌, List, [], ◌∷◌, ◌++◌, ℕ, ℤ, Bool, true, false, Option, None, Some, if◌then◌else◌, is_some, min}
 use Rattle.std.specs.List.{list_any}
-use Rattle.xb_dtmf.specs.Blocks.{HasTaken, digit_blocks}
-use Rattle.xb_dtmf.specs.Lines.{buttons_line}
+use Rattle.xb_measured.specs.ButtonBlocks.{HasTaken, digit_blocks}
+use Rattle.xb_measured.specs.ButtonLines.{buttons_line}
 use Rattle.xb_measured.specs.declared.heard.Heard.{Heard}
 use Rattle.xb_measured.specs.Receivers.{HasReceived, keys_of_sound}
 use Rattle.xb_measured.specs.Meters.{metered, quiet_line}
-use Rattle.xb_told.specs.Keyings.{is_kp}
+use Rattle.xb_measured.specs.Keyings.{is_kp}
 use Rattle.xb_rx.specs.declared.listener.Listener.{Listener}
 
 -- whether there is a key

@@ -3,7 +3,7 @@ use Rattle.std.specs.Prelude.{ℕ, ◌≡◌, ◌+◌, List, [], ◌∷◌, ◌+
 use Rattle.std.specs.List.{flat_map}
 use Rattle.xb_measured.specs.declared.heard.Heard.{Heard}
 use Rattle.xb_measured.specs.Figures.{figures_of}
-use Rattle.xb_told.specs.Keyings.{Part, is_keying, is_loose, parts_of}
+use Rattle.xb_measured.specs.Keyings.{Part, is_keying, is_loose, parts_of}
 use Rattle.xb_rx.specs.declared.objects.Objects.{Objects}
 use Rattle.xb_rx.specs.Timed.{Timing, entry_line, key_line}
 

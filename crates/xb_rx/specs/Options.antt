@@ -1,41 +1,53 @@
 -- What the words of the command line ask for, as clap reads them.
-use Rattle.std.specs.Prelude.{ℕ, ◌≡◌, ◌-◌, ◌&&◌, not, ◌||◌, List, Bool, if◌then◌else◌, Option, Some, None, codes, is_some, nat_le, nat_lt, option_and_then, option_map, unwrap_or}
-use Rattle.std.specs.Borrow.{Bor}
+use Rattle.std.specs.Prelude.{ℕ, ◌≡◌, ◌-◌, ◌&&◌, not, ◌||◌, List, Bool, false, if◌then◌else◌, Option, Some, None, bytes_eq, codes, is_some, nat_le, nat_lt, option_and_then, option_map, unwrap_or}
 use Rattle.clap.specs.Walk.{Row, Text, first_of}
 use Rattle.jiff_core.specs.declared.timestamp.Timestamp.{Timestamp}
 use Rattle.xb_clock.specs.Since.{ReadsSince}
 use Rattle.xb_clock.specs.declared.since.Since.{Since}
 use Rattle.xb_clock.specs.declared.since.Since.TheVariants as since
-use Rattle.xb_command.specs.Given.{AskForNothing, AsksFor, ReadsFlag, ReadsNumber, given_by}
+use Rattle.xb_command.specs.Answers.{Takes}
+use Rattle.xb_command.specs.Given.{ReadsFlag, ReadsNumber, given_by}
+use Rattle.xb_command.specs.declared.table.Call.{Call}
 use Rattle.xb_model.specs.declared.line.TheConstants.{LINES}
 use Rattle.xb_model.specs.declared.trunk.TheConstants.{TRUNKS}
 use Rattle.xb_riff.specs.declared.coding.Coding.{Coding}
 use Rattle.xb_riff.specs.declared.coding.Coding.TheVariants as coding
+use Rattle.xb_rx.specs.declared.request.Asked.{Asked}
 use Rattle.xb_rx.specs.declared.request.Input.{Input}
 use Rattle.xb_rx.specs.declared.request.Input.TheVariants as input
 use Rattle.xb_rx.specs.declared.request.Request.{Request}
 use Rattle.xb_rx.specs.declared.request.Written.{Written}
 use Rattle.xb_rx.specs.declared.request.Written.TheVariants as written
 use Rattle.xb_rx.specs.declared.words.Options.{Options}
-use Rattle.xb_rx.specs.Rules.{command_of_words}
-use Rattle.xb_wav.specs.declared.coding.SampleForm.{SampleForm}
-use Rattle.xb_wav.specs.declared.coding.TheConstants.{MOST_CHANNELS}
-use Rattle.xb_wav.specs.Starts.{form_with, frames_of}
+use Rattle.xb_rx.specs.declared.coding.SampleForm.{SampleForm}
+use Rattle.xb_rx.specs.declared.coding.TheConstants.{MOST_CHANNELS}
+use Rattle.xb_rx.specs.Starts.{form_with, frames_of}
+
+-- the sound is samples alone where a form of these is named
+abbrev pub is_raw : Option Text → Bool
+is_raw form = is_some form
+
+-- which may be bytes of mu-law
+abbrev pub is_mu_law : Option Text → Bool
+is_mu_law None = false
+is_mu_law (Some form) = bytes_eq form (codes "ulaw")
 
 -- what clap matched says these options
 pub record Say (rows : List Row) (options : Options) : Type 0 where
+  pub sound : option_map (λ text. text.now) options.sound ≡ first_of (codes "SOUND") rows
   pub line : ReadsNumber (given_by rows (codes "line")) options.line
   pub trunk : ReadsNumber (given_by rows (codes "trunk")) options.trunk
   pub tones : ReadsFlag (given_by rows (codes "tones")) options.tones
   pub json : ReadsFlag (given_by rows (codes "json")) options.json
+  pub since : ReadsSince (first_of (codes "since") rows) options.since
   pub html : ReadsFlag (given_by rows (codes "html")) options.html
   pub svg : ReadsFlag (given_by rows (codes "svg")) options.svg
-  pub raw : ReadsFlag (given_by rows (codes "raw")) options.raw
-  pub rate : ReadsNumber (given_by rows (codes "rate")) options.rate
-  pub ulaw : ReadsFlag (given_by rows (codes "ulaw")) options.ulaw
-  pub channels : ReadsNumber (given_by rows (codes "channels")) options.channels
+  pub against : option_map (λ text. text.now) options.against ≡ first_of (codes "against") rows
   pub channel : ReadsNumber (given_by rows (codes "channel")) options.channel
-  pub since : ReadsSince (first_of (codes "since") rows) options.since
+  pub raw : options.raw ≡ is_raw (first_of (codes "format") rows)
+  pub rate : ReadsNumber (given_by rows (codes "rate")) options.rate
+  pub ulaw : options.ulaw ≡ is_mu_law (first_of (codes "format") rows)
+  pub channels : ReadsNumber (given_by rows (codes "channels")) options.channels
 
 -- a number below this, or 0 where none is given
 abbrev pub below : ℕ → Option ℕ → Option ℕ
@@ -98,7 +110,7 @@ raw_form options =
 abbrev pub input_of : Options → Option Input
 input_of options =
     if options.raw then option_map (λ form. input.Raw form) (raw_form options)
-    else (if is_some options.rate || options.ulaw || is_some options.channels then None
+    else (if is_some options.rate || is_some options.channels then None
     else option_map (λ channel. input.Wav channel) (channel_of MOST_CHANNELS options.channel))
 
 -- the time of day at which the sound begins goes with objects alone
@@ -121,25 +133,32 @@ abbrev pub is_plain : Options → Bool
 is_plain options = not (options.html || options.svg || says_told options)
 
 -- where a page is named the sound is compared with it, and nothing is said of what is written
-abbrev pub request_against : Options → Bool → Option Request
-request_against options against = if against && not (is_plain options) then None else request_of options
+abbrev pub request_by : Options → Option Request
+request_by options = if is_some options.against && not (is_plain options) then None else request_of options
 
--- the name of the file of a page
-abbrev pub named : Option (Bor Text) → Option Text
-named name = option_map (λ text. text.now) name
+-- how the sound is given, and what is written of it
+abbrev pub asked_request : Asked → Request
+asked_request asked = record { written = asked.written; since = asked.since; input = asked.input }
 
--- what clap matched says these options, and names this page
-abbrev pub SayAll : List Row → Options × Option Text → Type 0
-SayAll rows (options, against) = Say rows options × (against ≡ first_of (codes "against") rows)
+-- what clap matched says this
+pub record SayAsked (rows : List Row) (asked : Asked) : Type 0 where
+  pub options : Options
+  pub says : Say rows options
+  pub sound : asked.sound ≡ options.sound
+  pub request : request_by options ≡ Some (asked_request asked)
+  pub against : asked.against ≡ options.against
 
-abbrev pub asked_of : Options × Option Text → Option (Request × Option Text)
-asked_of (options, against) =
-    option_map (λ request. (request, against)) (request_against options (is_some against))
+-- what clap matched says options that ask for nothing
+abbrev pub AskNothing : List Row → Type 0
+AskNothing rows = (options : Options) × Say rows options × (request_by options ≡ None)
 
--- clap takes the words, and they ask for this, or to be compared with this page
-abbrev pub Asks : List Text → Request → Option Text → Type 0
-Asks words request against = AsksFor command_of_words SayAll asked_of words (request, against)
+-- the words of a call are taken, and ask for this, or for nothing
+pub record Asks (call : Call) (asked : Asked) : Type 0 where
+  pub rows : List Row
+  pub takes : Takes call rows
+  pub says : SayAsked rows asked
 
--- clap refuses the words, or they ask for what there is not
-abbrev pub AreRefused : List Text → Type 0
-AreRefused words = AskForNothing command_of_words SayAll asked_of words
+pub record AsksNothing (call : Call) : Type 0 where
+  pub rows : List Row
+  pub takes : Takes call rows
+  pub says : AskNothing rows

@@ -8,8 +8,8 @@ use Rattle.xb_sound.specs.declared.cadence.Cadence.{Cadence}
 use Rattle.xb_ear.specs.Disturbed.{AreWithin}
 use Rattle.xb_ear.specs.HeardKeys.{IsHearable, disturbable}
 use Rattle.xb_measured.specs.Receivers.{keys_of_sound}
-use Rattle.xb_told.specs.declared.keys.TheConstants.{MOST_DIGITS}
-use Rattle.xb_told.specs.Keyings.{loose_keys}
+use Rattle.xb_measured.specs.declared.keys.TheConstants.{MOST_DIGITS}
+use Rattle.xb_measured.specs.Keyings.{loose_keys}
 use Rattle.xb_rx.specs.Pages.{page_after, page_of}
 
 -- digits, not too many for a keying

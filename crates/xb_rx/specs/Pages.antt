@@ -9,13 +9,13 @@ use Rattle.xb_model.specs.Page.{entries_text, entry_text, totals_text}
 use Rattle.xb_measured.specs.declared.heard.Heard.{Heard}
 use Rattle.xb_text.specs.Writing.{AppendsBeginning}
 use Rattle.xb_page.specs.Entries.{entry_with}
-use Rattle.xb_compared.specs.Differences.{differences}
-use Rattle.xb_compared.specs.Entries.{KeyedEntry}
-use Rattle.xb_compared.specs.Keyed.{keyed_with}
+use Rattle.xb_rx.specs.Differences.{differences}
+use Rattle.xb_rx.specs.Entries.{KeyedEntry}
+use Rattle.xb_rx.specs.Keyed.{keyed_with}
 use Rattle.xb_rx.specs.Placed.{Placed, numbers_of, placed}
 use Rattle.xb_rx.specs.declared.page.Page.{Page}
-use Rattle.xb_told.specs.DoubtLines.{doubts_text, loose_line}
-use Rattle.xb_told.specs.Keyings.{Part, is_keying, is_loose, keyings, parts_of}
+use Rattle.xb_measured.specs.DoubtLines.{doubts_text, loose_line}
+use Rattle.xb_measured.specs.Keyings.{Part, is_keying, is_loose, keyings, parts_of}
 
 -- the lines of keys that stand in no keying
 abbrev pub loose_lines : List Heard → List ℕ

@@ -2,8 +2,8 @@
 use Rattle.std.specs.Prelude.{ℕ, List, [], ◌∷◌, Option, Some, None, drop, map}
 use Rattle.xb_measured.specs.declared.heard.Heard.{Heard}
 use Rattle.xb_measured.specs.Figures.{start_ms}
-use Rattle.xb_told.specs.DoubtLines.{began_ms}
-use Rattle.xb_told.specs.Keyings.{digits_in, keying_at}
+use Rattle.xb_measured.specs.DoubtLines.{began_ms}
+use Rattle.xb_measured.specs.Keyings.{digits_in, keying_at}
 
 -- when its KP begins, in ms from the first sample, and its digits
 pub record Placed : Type 0 where

@@ -4,7 +4,7 @@ use Rattle.xb_measured.specs.declared.heard.Heard.{Heard}
 use Rattle.xb_shown.specs.declared.heading.Title.TheVariants as title
 use Rattle.xb_shown.specs.Pages.{page_rest, page_text}
 use Rattle.xb_shown.specs.Pictures.{Part, part_of, picture_rest, picture_text}
-use Rattle.xb_told.specs.Keyings.{Part as KeyPart, is_keying, is_loose, parts_of}
+use Rattle.xb_measured.specs.Keyings.{Part as KeyPart, is_keying, is_loose, parts_of}
 use Rattle.xb_rx.specs.declared.parts.Parts.{Parts}
 use Rattle.xb_rx.specs.declared.parts.Sheet.{Sheet}
 use Rattle.xb_rx.specs.declared.parts.Sheet.TheVariants as sheet

@@ -8,8 +8,8 @@ use Rattle.xb_clock.specs.Objects.{with_time}
 use Rattle.xb_measured.specs.declared.heard.Heard.{Heard}
 use Rattle.xb_measured.specs.declared.figures.Figures.{Figures}
 use Rattle.xb_measured.specs.Objects.{object_of}
-use Rattle.xb_told.specs.DoubtLines.{began_ms}
-use Rattle.xb_told.specs.Entries.{ended_ms, entry_object}
+use Rattle.xb_measured.specs.DoubtLines.{began_ms}
+use Rattle.xb_measured.specs.Entries.{ended_ms, entry_object}
 
 -- the time of day at which the sound begins, where it is given, and the clock that tells those after it
 pub record Timing : Type 0 where

@@ -2,7 +2,7 @@
 ghost use Rattle.std.specs.Prelude.{◌≡◌};
 ghost use Rattle.xb_rx.specs.Begun.{step_of};
 
-use xb_told::{MOST_DIGITS, NamedKey};
+use xb_measured::{MOST_DIGITS, NamedKey};
 
 // What is done with a key.
 #[derive(Clone, Copy, Debug, PartialEq, Eq)]

@@ -5,24 +5,25 @@ ghost use Rattle.xb_rx.specs.Comparing.{Compares, HasKeyed, IsDifferences, IsFil
 ghost use Rattle.xb_rx.specs.Hearing.{HasForm, outputs};
 
 use crate::fault::RxFault;
+use crate::keyed::Keyed;
+use crate::keyed_pages::{CompareFault, keyed_of_page};
 use crate::receiving::listen;
 use crate::report::Report;
 use crate::request::Input;
 use std::alloc::{AllocError, Global};
 use std::io::{self, Read, Write};
 use thiserror::Error;
-use xb_command::Files;
-use xb_compared::{CompareFault, Keyed, keyed_of_page};
+use xb_command::{Files, InOneLine};
 use xb_page::end_lines_at_lf;
 use xb_text::write_whole;
 
 /// Why what was keyed is not what is heard. On `Differ` the differences were written, on `Write` their beginning; else
 /// nothing.
 #[derive(Debug, Drop, Error)]
-pub enum CompareProgramFault {
-    /// The file of the page could not be read.
-    #[error("the page could not be read: {0}")]
-    File(io::Error),
+pub enum CompareProgramFault<'a> {
+    /// The file of the page, of this name, could not be read.
+    #[error("the page could not be read: {}: {}", InOneLine(.0), .1)]
+    File(&'a str, io::Error),
     /// It has no page.
     #[error("the page that was keyed: {0}")]
     Keyed(CompareFault),
@@ -40,13 +41,13 @@ pub enum CompareProgramFault {
     Differ,
 }
 
-impl From<AllocError> for CompareProgramFault {
+impl<'a> From<AllocError> for CompareProgramFault<'a> {
     ghost use Rattle.std.specs.Prelude.{◌≡◌};
     ghost use Rattle.xb_rx.specs.declared.comparing.CompareProgramFault.TheVariants.{NoMemory};
 
     ghost from_gives = { λ _ e. e ≡ NoMemory };
 
-    fn from(_error: AllocError) -> CompareProgramFault {
+    fn from(_error: AllocError) -> CompareProgramFault<'a> {
         CompareProgramFault::NoMemory
     }
 }
@@ -62,17 +63,17 @@ fn page_of_file<F: Files>(alloc: Global, files: &F, name: &str) -> io::Result<Ve
 }
 
 // The keyed entries of the page in a file.
-fn keyed_in<F: Files>(
+fn keyed_in<'a, F: Files>(
     alloc: Global,
     files: &F,
-    name: &str,
-) -> Result<Vec<Keyed>, CompareProgramFault>
-    ensures keyed { IfOk result (λ keyed. HasKeyed (F.bytes files.now name.now) keyed.items) }
-    ensures fault { IfErr result (IsFileFault (F.bytes files.now name.now)) }
+    name: &'a str,
+) -> Result<Vec<Keyed>, CompareProgramFault<'a>>
+    ensures keyed { IfOk result (λ keyed. HasKeyed (F.bytes files.now name.entry.now) keyed.items) }
+    ensures fault { IfErr result (IsFileFault (F.bytes files.now name.entry.now)) }
 {
     let page = match page_of_file(alloc, files, name) {
         Ok(page) => page,
-        Err(error) => return Err(CompareProgramFault::File(error)),
+        Err(error) => return Err(CompareProgramFault::File(name, error)),
     };
     match keyed_of_page(alloc, &page) {
         Ok(keyed) => Ok(keyed),
@@ -82,13 +83,13 @@ fn keyed_in<F: Files>(
 }
 
 // The differences of what was keyed and what is heard.
-fn differences_heard<R: Read, E: Write>(
+fn differences_heard<'a, R: Read, E: Write>(
     alloc: Global,
     keyed: Vec<Keyed>,
     input: Input,
     sound: &mut R,
     err: &mut E,
-) -> Result<Vec<u8>, CompareProgramFault>
+) -> Result<Vec<u8>, CompareProgramFault<'a>>
     requires { HasForm input }
     ensures text { IfOk result (λ text. IsDifferences input (R.remaining sound.old) keyed.items text.items
         (E.contents err.old) (E.contents err.new)) }
@@ -108,17 +109,17 @@ fn differences_heard<R: Read, E: Write>(
 /// line for each that was keyed and not heard, or heard and not keyed, and `err` one for each key that is in no
 /// keying. `Ok` says that there is no difference. What was keyed and the differences are held until the end, and no
 /// keying that was heard.
-pub fn compare<F: Files, R: Read, W: Write, E: Write>(
+pub fn compare<'a, F: Files, R: Read, W: Write, E: Write>(
     alloc: Global,
     files: &F,
-    name: &str,
+    name: &'a str,
     input: Input,
     sound: &mut R,
     out: &mut W,
     err: &mut E,
-) -> Result<(), CompareProgramFault>
+) -> Result<(), CompareProgramFault<'a>>
     requires { HasForm input }
-    ensures { Compares (F.bytes files.now name.now) input (R.remaining sound.old) result
+    ensures { Compares (F.bytes files.now name.entry.now) input (R.remaining sound.old) result
         (outputs (W.contents out.old) (W.contents out.new) (E.contents err.old) (E.contents err.new)) }
 {
     let keyed = keyed_in(alloc, files, name)?;

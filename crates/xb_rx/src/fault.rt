@@ -1,9 +1,9 @@
 // Why a sound is not heard to its end.
 use crate::page::PageFault;
 use crate::timed::ReportFault;
+use crate::{OpenFault, StreamFault, WavFault};
 use thiserror::Error;
 use xb_clock::LAST_TIME;
-use xb_wav::{OpenFault, StreamFault, WavFault};
 
 /// Why a sound is not heard to its end. What was written before stays; on `Wav` that is nothing.
 #[derive(Clone, Copy, Debug, PartialEq, Eq, Error)]

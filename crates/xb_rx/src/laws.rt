@@ -2,13 +2,8 @@
 ghost use Rattle.xb_rx.specs.Comparing.{EntriesAreAtTheirKp, HeardIsPaged};
 ghost use Rattle.xb_rx.specs.Objects.{ObjectsHaveEntries};
 ghost use Rattle.xb_rx.specs.PagedKeys.{KeyedIsPaged};
-ghost use Rattle.xb_rx.specs.Program.{UsageNamesEachOption};
-
-/// The line of refused words names each option of the command.
-#[tactic(auto, unfolding(clap::proofs::OnLiterals::clap_on_literals, xb_command::specs::Usages::has_part))]
-pub fn usage_names_each_option()
-    ensures { UsageNamesEachOption }
-{}
+ghost use Rattle.xb_rx.specs.Differences.{SameKeysDoNotDiffer};
+ghost use Rattle.xb_rx.specs.Constants.{AreConstants};
 
 /// What is keyed is the page of what is heard, disturbed too: an entry for each keying, in order, and no key that is
 /// in none.
@@ -29,4 +24,14 @@ pub fn entries_are_at_their_kp()
 /// Among the objects of keys those of entries are one for each keying, in order.
 pub fn objects_have_entries()
     ensures { ObjectsHaveEntries }
+{}
+
+/// There are no differences just where the keys are the same.
+pub fn same_keys_do_not_differ()
+    ensures { SameKeysDoNotDiffer }
+{}
+
+/// The numbers that documents name.
+pub fn constants()
+    ensures { AreConstants }
 {}

@@ -1,15 +1,13 @@
 // A sound that is heard, and what is told of one in which no key is heard, or no KP.
 ghost use Rattle.std.specs.Prelude.{◌≡◌, ◌∷◌, ◌++◌, [], false, List, ℤ};
-ghost use Rattle.xb_dtmf.specs.Blocks.{HasTaken};
+ghost use Rattle.xb_measured.specs.ButtonBlocks.{HasTaken};
 ghost use Rattle.xb_rx.specs.Listeners.{has_kp_with, is_keyed_with};
 
 use crate::page::PageFault;
 use std::alloc::{AllocError, Global};
 use std::io::Write;
-use xb_dtmf::{Buttons, buttons_line};
-use xb_measured::{Heard, Meter, Receiver};
+use xb_measured::{Buttons, Heard, Meter, NamedKey, Receiver, buttons_line};
 use xb_text::write_whole;
-use xb_told::NamedKey;
 
 /// What was heard of a sound so far, how loud it was, and whether digits of a push-button telephone sounded in it.
 #[derive(Drop)]

@@ -5,9 +5,8 @@ use crate::timed::{ReportFault, entry_line, key_line};
 use jiff_core::Timestamp;
 use std::alloc::{AllocError, Global};
 use std::io::Write;
-use xb_measured::{Heard, figures_of};
+use xb_measured::{Heard, NamedKey, figures_of};
 use xb_text::write_whole;
-use xb_told::NamedKey;
 
 /// Keys that are told one by one as objects, and the entries after the keys that complete them, with their times of day
 /// where a call gives the one at which the sound begins. It holds the keys of one keying, up to `MOST_DIGITS` digits.

@@ -3,18 +3,18 @@ ghost use Rattle.std.specs.Prelude.{◌≡◌, [], ◌∷◌, ◌++◌, IfOk, On
 ghost use Rattle.xb_model.specs.declared.key.Key.TheVariants.{Digit};
 ghost use Rattle.xb_model.specs.Keyings.{tone};
 ghost use Rattle.xb_model.specs.Page.{entry_text, totals_text};
-ghost use Rattle.xb_told.specs.Keyings.{digits_in};
+ghost use Rattle.xb_measured.specs.Keyings.{digits_in};
 ghost use Rattle.xb_rx.specs.Pages.{IsTextOf, loose_lines};
 
 use crate::begun::{Step, step_of};
+use crate::comparison::Comparison;
+use crate::keyed::Keyed;
 use std::alloc::{AllocError, Global};
 use std::io::Write;
-use xb_compared::{Comparison, Keyed};
-use xb_measured::Heard;
+use xb_measured::{Heard, NamedKey, began_ms, doubts_text};
 use xb_model::{Key, LineNo, Mark, Trunk, mf};
 use xb_tape::{write_entry, write_totals};
 use xb_text::write_whole;
-use xb_told::{NamedKey, began_ms, doubts_text};
 
 // Why a page is not written.
 #[derive(Clone, Copy, Debug, PartialEq, Eq)]
@@ -147,7 +147,7 @@ impl Page {
     ghost use Rattle.xb_measured.specs.Receivers.{listed};
     ghost use Rattle.xb_model.specs.Keyings.{keying};
     ghost use Rattle.xb_text.specs.Writing.{AppendsBeginning};
-    ghost use Rattle.xb_told.specs.Keyings.{Part, digits_in, is_keying};
+    ghost use Rattle.xb_measured.specs.Keyings.{Part, digits_in, is_keying};
     ghost use Rattle.xb_rx.specs.Begun.{IsBegun, broken, kept_after};
     ghost use Rattle.xb_rx.specs.Placed.{Placed, placed_of};
     ghost use Rattle.xb_rx.specs.Pages.{Ends, Writes, WritesOf, fresh_against, fresh_page, loose_lines, page_rest, page_told, paged, text_rest, told_parts};

@@ -8,10 +8,9 @@ use crate::page::PageFault;
 use std::alloc::{AllocError, Global};
 use std::io::Write;
 use std::slice;
-use xb_measured::Heard;
+use xb_measured::{Heard, NamedKey};
 use xb_shown::{Picture, Sections, Title};
 use xb_text::write_whole;
-use xb_told::NamedKey;
 
 /// What parts of keys are shown on.
 #[derive(Drop)]

@@ -1,80 +1,114 @@
 // The program: its words and a sound in, a status and a page out.
+ghost use Rattle.std.specs.Prelude.{◌≡◌, true};
+ghost use Rattle.clap.specs.Faults.{is_simple_and_free};
 ghost use Rattle.xb_command.specs.Programs.{streams};
-ghost use Rattle.xb_command.specs.Commands.{texts_of};
+ghost use Rattle.xb_command.specs.Tables.{command_by};
+ghost use Rattle.xb_command.specs.Works.{AttendsBy, Runs};
 ghost use Rattle.xb_rx.specs.Hearing.{HasForm};
-ghost use Rattle.xb_rx.specs.Options.{named};
-ghost use Rattle.xb_rx.specs.Program.{Answers, AttendsRx};
+ghost use Rattle.xb_rx.specs.Program.{HasFault, IsDone, by_rx};
 
 use crate::comparing::compare;
 use crate::receiving::receive;
-use crate::request::Request;
-use crate::words::asked_by_words;
+use crate::request::{Asked, Request};
+use crate::words::asked_of;
 use std::alloc::Global;
 use std::io::{Read, Write};
-use xb_command::{DONE, Files, tell_fault, tell_words};
-
-// The program's name.
-pub(crate) const PROGRAM: &str = "mfrx";
-
-// The line of refused words.
-const USAGE: &[u8] =
-    b"mfrx: usage: mfrx [--line N] [--trunk T] [--tones] [--json [--since TIME]] [--html] [--svg] [--against PAGE] [--channel N] [--raw [--rate HZ] [--ulaw] [--channels N]]\n";
+use xb_command::{
+    Answer, Call, DONE, Files, Program, Source, Work, ask_words, file_source, tell_fault,
+};
 
 // Does what is asked for, and returns the status of the process.
 fn answer<F: Files, R: Read, W: Write, E: Write>(
     alloc: Global,
     request: Request,
     against: Option<&str>,
+    program: &Program<'_>,
     files: &F,
-    sound: &mut R,
+    input: &mut R,
     out: &mut W,
     err: &mut E,
 ) -> u8
     requires { HasForm request.input }
-    ensures { Answers (F.bytes files.now) request (named against.entry)
-        (streams (R.remaining sound.old) (W.contents out.old) (E.contents err.old))
-        (streams (R.remaining sound.new) (W.contents out.new) (E.contents err.new)) result }
+    ensures { Runs (IsDone (F.bytes files.now) request against.entry)
+        (HasFault request against.entry program.now (F.bytes files.now))
+        (streams (R.remaining input.old) (W.contents out.old) (E.contents err.old))
+        (streams (R.remaining input.new) (W.contents out.new) (E.contents err.new)) result }
 {
     match against {
-        None => match receive(alloc, request, sound, out, err) {
+        None => match receive(alloc, request, input, out, err) {
             Ok(()) => DONE,
-            Err(fault) => tell_fault(alloc, err, PROGRAM, fault),
+            Err(fault) => tell_fault(alloc, err, program.name, fault),
         },
-        Some(name) => match compare(alloc, files, name, request.input, sound, out, err) {
+        Some(name) => match compare(alloc, files, name, request.input, input, out, err) {
             Ok(()) => DONE,
-            Err(fault) => tell_fault(alloc, err, PROGRAM, fault),
+            Err(fault) => tell_fault(alloc, err, program.name, fault),
         },
     }
 }
 
-/// Reads the words of the command line, the program's name first, and by them writes the page of a sound, or its keys,
-/// as `receive` does, or its differences from the page in a file, as `compare` does. It returns the status of the
-/// process:
-///
-/// - `DONE`: the words ask for something, `out` got exactly the page of the sound's keyings, and `err` a line for each
-///   key that is in none; or `out` got exactly a line for each key, or what shows the keyings; or nothing, since there
-///   is no difference;
-/// - `FAULT`: `receive` or `compare` has a fault, which a difference is too, or memory ran out while the words were
-///   read; `err` gets the fault as one line after such keys, and `out` got nothing, the beginning of the page or of the
-///   lines, or the differences;
-/// - `WORDS_REFUSED`: the words are refused, or ask for help; `err` gets the usage as one line, nothing is read and
-///   `out` got nothing.
-///
-/// A fault in writing this line to `err` changes no status.
+impl<'a> Work<'a> for Asked<'a> {
+    ghost use Rattle.xb_rx.specs.Program.{by_rx};
+
+    ghost rules = { by_rx };
+
+    fn ask(alloc: Global, call: &Call<'a>) -> Result<Asked<'a>, Answer<'a>> {
+        let words = match ask_words(alloc, call) {
+            Ok(words) => words,
+            Err(answer) => return Err(answer),
+        };
+        match asked_of(&words) {
+            Ok(asked) => Ok(asked),
+            Err(misfit) => Err(Answer::Unfit(misfit)),
+        }
+    }
+
+    fn source(&self) -> Source<'a> {
+        file_source(self.sound)
+    }
+
+    #[tactic(auto, using(crate::proofs::Formed::formed))]
+    fn run<F: Files, R: Read, W: Write, E: Write>(
+        self,
+        alloc: Global,
+        program: &Program<'a>,
+        files: &F,
+        input: &mut R,
+        out: &mut W,
+        err: &mut E,
+    ) -> u8 {
+        let request = Request {
+            written: self.written,
+            since: self.since,
+            input: self.input,
+        };
+        answer(
+            alloc,
+            request,
+            self.against,
+            program,
+            files,
+            input,
+            out,
+            err,
+        )
+    }
+}
+
+/// Reads the words of the command line, and by them writes the page of a sound, or its keys, or what shows them, as
+/// `receive` does, or its differences from the page in a file, as `compare` does. It returns the status of the process,
+/// as `attend` of `xb_command` says.
 pub fn attend<F: Files, R: Read, W: Write, E: Write>(
     alloc: Global,
-    words: &[String],
+    call: &Call<'_>,
     files: &F,
-    sound: &mut R,
+    input: &mut R,
     out: &mut W,
     err: &mut E,
 ) -> u8
-    ensures { AttendsRx (F.bytes files.now) (texts_of words.now)
-        (streams (R.remaining sound.old) (W.contents out.old) (E.contents err.old))
-        (streams (R.remaining sound.new) (W.contents out.new) (E.contents err.new)) result }
+    requires { is_simple_and_free (command_by call.now.program.now) ≡ true }
+    ensures { AttendsBy by_rx call.now (F.bytes files.now)
+        (streams (R.remaining input.old) (W.contents out.old) (E.contents err.old))
+        (streams (R.remaining input.new) (W.contents out.new) (E.contents err.new)) result }
 {
-    match asked_by_words(alloc, words) {
-        Ok(asked) => answer(alloc, asked.request, asked.against, files, sound, out, err),
-        Err(fault) => tell_words(err, PROGRAM, USAGE, fault),
-    }
+    xb_command::attend::<Asked<'_>, F, R, W, E>(alloc, call, files, input, out, err)
 }

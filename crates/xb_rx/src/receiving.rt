@@ -4,19 +4,19 @@ ghost use Rattle.xb_clock.specs.Clocks.{Clock, IsClockSince};
 ghost use Rattle.xb_rx.specs.Hearing.{DeliversTimed, HasForm, Hears, HearsBytes, outputs, start_by};
 ghost use Rattle.xb_rx.specs.Reports.{IsReady, count_of, reported};
 ghost use Rattle.xb_rx.specs.Timed.{timing_by, untimed};
-ghost use Rattle.xb_wav.specs.Samples.{IsForm};
-ghost use Rattle.xb_wav.specs.Starts.{Opens};
-ghost use Rattle.xb_wav.specs.Streams.{sound_left};
-ghost use Rattle.xb_wav.specs.declared.wav_start.TheConstants.{UNKNOWN_SAMPLES};
+ghost use Rattle.xb_rx.specs.Samples.{IsForm};
+ghost use Rattle.xb_rx.specs.Starts.{Opens};
+ghost use Rattle.xb_rx.specs.Streams.{sound_left};
+ghost use Rattle.xb_rx.specs.declared.wav_start.TheConstants.{UNKNOWN_SAMPLES};
 
 use crate::fault::RxFault;
 use crate::listener::Listener;
 use crate::report::Report;
 use crate::request::{Input, Request};
+use crate::{OpenFault, Source, Start, UNKNOWN_SAMPLES, open_wav};
 use jiff_core::Timestamp;
 use std::alloc::Global;
 use std::io::{Read, Write};
-use xb_wav::{OpenFault, Source, Start, UNKNOWN_SAMPLES, open_wav};
 
 // Takes the samples of a source to their end.
 fn hear<R: Read, W: Write, E: Write>(

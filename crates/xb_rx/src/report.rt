@@ -2,6 +2,7 @@
 ghost use Rattle.std.specs.Prelude.{◌≡◌};
 ghost use Rattle.xb_rx.specs.Faults.{reported_page};
 
+use crate::keyed::Keyed;
 use crate::listing::Listing;
 use crate::objects::Objects;
 use crate::page::{Page, PageFault};
@@ -11,7 +12,6 @@ use crate::timed::ReportFault;
 use jiff_core::Timestamp;
 use std::alloc::Global;
 use std::io::Write;
-use xb_compared::Keyed;
 use xb_measured::Heard;
 use xb_shown::{Picture, Sections};
 

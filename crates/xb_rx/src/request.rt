@@ -1,7 +1,9 @@
 // What is asked for.
+ghost use Rattle.xb_rx.specs.Hearing.{HasForm};
+
+use crate::SampleForm;
 use jiff_core::Timestamp;
 use xb_model::{LineNo, Trunk};
-use xb_wav::SampleForm;
 
 /// How a sound is given.
 #[derive(Clone, Copy, Debug, PartialEq, Eq)]
@@ -39,10 +41,17 @@ pub struct Request {
 }
 
 /// What the words ask for.
-#[derive(Clone, Copy, Debug)]
+#[derive(Clone, Copy, Drop)]
 pub struct Asked<'a> {
-    /// How the sound is given, and what is written of it.
-    pub request: Request,
+    /// The file of the sound; without it, or with `-`, the input.
+    pub sound: Option<&'a str>,
+    /// What is written.
+    pub written: Written,
+    /// The time of day at which the sound begins, where it is given.
+    pub since: Option<Timestamp>,
+    /// How the sound is given.
+    pub input: Input,
     /// The file of the page that it is compared with, in place of being written down.
     pub against: Option<&'a str>,
+    pub ghost has_form: { ∥ HasForm input ∥₁ },
 }

@@ -9,8 +9,7 @@ use jiff_core::Timestamp;
 use std::alloc::{AllocError, Global};
 use xb_clock::{TimeText, time_of, with_time};
 use xb_json::line_of;
-use xb_measured::{Figures, object_of};
-use xb_told::{NamedKey, began_ms, ended_ms, entry_object};
+use xb_measured::{Figures, NamedKey, began_ms, ended_ms, entry_object, object_of};
 
 // Why what is heard is not written.
 #[derive(Clone, Copy, Debug, PartialEq, Eq)]

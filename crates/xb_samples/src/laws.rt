@@ -2,6 +2,8 @@
 ghost use Rattle.xb_samples.specs.Greatest.{MeasuresTheGreatest};
 ghost use Rattle.xb_samples.specs.Hysteresis.{HearsEachLevel};
 ghost use Rattle.xb_samples.specs.Turns.{TurnsAreTold};
+ghost use Rattle.std.specs.Prelude.{◌≡◌};
+ghost use Rattle.xb_samples.specs.declared.turns.TheConstants.{MOST_TURNS};
 
 /// Where samples differ from the values of their two levels by less than the thresholds do, what is heard of
 /// them are the levels.
@@ -19,4 +21,9 @@ pub fn the_greatest_is_measured()
 /// come 126 times over are.
 pub fn turns_are_told()
     ensures { TurnsAreTold }
+{}
+
+/// How many turns of a sample of two bytes are counted.
+pub fn constants()
+    ensures most_turns { MOST_TURNS ≡ 250 }
 {}

@@ -5,8 +5,8 @@ use Rattle.xb_measured.specs.declared.heard.Heard.{Heard}
 use Rattle.xb_measured.specs.Seconds.{seconds_text}
 use Rattle.xb_svg.specs.declared.look.Look.{Look}
 use Rattle.xb_svg.specs.Elements.{words_text}
-use Rattle.xb_told.specs.DoubtLines.{began_ms}
-use Rattle.xb_told.specs.Keyings.{digit_of}
+use Rattle.xb_measured.specs.DoubtLines.{began_ms}
+use Rattle.xb_measured.specs.Keyings.{digit_of}
 use Rattle.xb_shown.specs.declared.heading.TheConstants.{HEADING_DOWN, HEARD_RIGHT}
 use Rattle.xb_shown.specs.declared.heading.Title.{Title}
 use Rattle.xb_shown.specs.declared.heading.Title.TheVariants as title

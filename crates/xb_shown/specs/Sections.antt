@@ -3,7 +3,7 @@ use Rattle.std.specs.Prelude.{ℕ, List, [], ◌++◌, codes, Option}
 use Rattle.xb_measured.specs.declared.heard.Heard.{Heard}
 use Rattle.xb_measured.specs.Lines.{text_lines}
 use Rattle.xb_svg.specs.Escaped.{escaped}
-use Rattle.xb_told.specs.DoubtLines.{began_ms, doubts_text}
+use Rattle.xb_measured.specs.DoubtLines.{began_ms, doubts_text}
 use Rattle.xb_shown.specs.declared.heading.Title.{Title}
 use Rattle.xb_shown.specs.declared.heading.Title.TheVariants as title
 use Rattle.xb_shown.specs.Headings.{keyed_words, title_words}

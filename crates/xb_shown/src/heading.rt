@@ -5,10 +5,9 @@ ghost use Rattle.xb_shown.specs.Headings.{digit_text, entry_words, heading_text,
 use crate::looks::{HEAD, RED_HEAD};
 use crate::places::{LEFT, row_top};
 use std::alloc::{AllocError, Global};
-use xb_measured::seconds_text;
+use xb_measured::{NamedKey, began_ms, seconds_text};
 use xb_model::Digit;
 use xb_svg::{Look, push_text};
-use xb_told::{NamedKey, began_ms};
 
 /// What keys are.
 #[derive(Clone, Copy, Debug, PartialEq, Eq)]

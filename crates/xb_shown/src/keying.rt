@@ -10,9 +10,8 @@ use crate::misses::push_misses;
 use crate::places::{WIDTH, row_top};
 use crate::rows::{PlacedKey, placed_of, rows_to};
 use std::alloc::{AllocError, Global};
-use xb_measured::{Heard, Limit, misses};
+use xb_measured::{Heard, Limit, NamedKey, misses};
 use xb_svg::{push_end, push_frame};
-use xb_told::NamedKey;
 
 // Puts the tones of a key that misses these limits after the text, on the ground of its row where that begins with it.
 fn push_tones(

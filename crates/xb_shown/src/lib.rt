@@ -16,6 +16,7 @@ mod bars;
 mod ground;
 mod heading;
 mod keying;
+pub mod laws;
 mod looks;
 mod misses;
 mod page;

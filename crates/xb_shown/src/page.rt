@@ -6,9 +6,8 @@ ghost use Rattle.xb_shown.specs.Sections.{end_text, figures_text, lines_text, op
 use crate::heading::{Title, keyed_words, title_words};
 use crate::keying::push_keying;
 use std::alloc::{AllocError, Global};
-use xb_measured::{Heard, figures_of, text_line};
+use xb_measured::{Heard, NamedKey, began_ms, doubts_text, figures_of, text_line};
 use xb_svg::push_escaped;
-use xb_told::{NamedKey, began_ms, doubts_text};
 
 /// Puts what stands before the sections of a page after the text. The page needs no script and no other file, and is
 /// printed with no section cut in two. `Err` says that memory ran out.

@@ -8,9 +8,8 @@ use crate::looks::RED_HEAD;
 use crate::places::{LEFT, WIDTH, row_top};
 use std::alloc::{AllocError, Global};
 use std::marker::Model;
-use xb_measured::Heard;
+use xb_measured::{Heard, NamedKey};
 use xb_svg::{push_end, push_frame, push_text};
-use xb_told::NamedKey;
 
 /// How many keyings and loose keys are drawn in one picture at most.
 pub const MOST_DRAWN: usize = 40;

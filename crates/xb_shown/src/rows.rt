@@ -4,8 +4,7 @@ ghost use Rattle.xb_shown.specs.Rows.{end_of, fits, leads, next_number, placed_o
 
 use crate::places::ROW_MS;
 use std::alloc::{AllocError, Global};
-use xb_measured::{Figures, Heard, figures_of};
-use xb_told::NamedKey;
+use xb_measured::{Figures, Heard, NamedKey, figures_of};
 
 /// A row of a picture.
 #[derive(Clone, Copy, Debug, PartialEq, Eq)]

@@ -3,8 +3,7 @@ use crate::heading::Title;
 use crate::page::{push_page_end, push_page_start, push_part};
 use std::alloc::{AllocError, Global};
 use std::marker::Model;
-use xb_measured::Heard;
-use xb_told::NamedKey;
+use xb_measured::{Heard, NamedKey};
 
 /// A page in HTML whose sections come one by one. It holds none of them.
 #[derive(Drop)]

@@ -3,6 +3,9 @@ ghost use Rattle.xb_signal.specs.KnownSamples.{SamplesAreKnown};
 ghost use Rattle.xb_signal.specs.Levels.{AmplitudesAreRounded};
 ghost use Rattle.xb_signal.specs.WritingLaws.{FilesAreAsLong, LinearFilesAreWavs, MuLawFilesAreRead, MuLawIsNearest};
 ghost use Rattle.xb_signal.specs.SignalLaws.{KeysAreHeard, KeysSoundAsMarks, NamesAreHeard, NothingIsCut, PlainKeysAreWritten, QuarterIsRound, SteadyGoesOn, WavesAreSines, WorkedText};
+ghost use Rattle.std.specs.Prelude.{◌≡◌};
+ghost use Rattle.xb_signal.specs.declared.segment.TheConstants.{MOST_TONES};
+ghost use Rattle.xb_signal.specs.declared.word.TheConstants.{MOST_HZ, MOST_MS};
 
 /// The quarter is one of a sine, and of a multiple of 100 Hz each sample is that of the tones of marks.
 #[tactic(auto, using(crate::proofs::Sines::waves_are_sines, crate::proofs::Sines::quarter_is_round))]
@@ -61,4 +64,11 @@ pub fn steady_goes_on()
 /// Of what fits no sample is cut: what is added is counted, whatever the seed is.
 pub fn nothing_is_cut()
     ensures { NothingIsCut }
+{}
+
+/// The most tones of a word, and the greatest frequency and time of one.
+pub fn constants()
+    ensures most_tones { MOST_TONES ≡ 6 }
+    ensures most_hz { MOST_HZ ≡ 3999 }
+    ensures most_ms { MOST_MS ≡ 60000 }
 {}

@@ -4,6 +4,8 @@ ghost use Rattle.xb_sound.specs.HeardTapes.{TapesAreHeard};
 ghost use Rattle.xb_sound.specs.ReadWavs.{WavsAreReadBack};
 ghost use Rattle.xb_sound.specs.SineLaws.{IsSine};
 ghost use Rattle.xb_sound.specs.WorkedSounds.{FirstSamples, ShortFile, ShortKeying};
+ghost use Rattle.std.specs.Prelude.{◌≡◌};
+ghost use Rattle.xb_sound.specs.declared.cadence.TheConstants.{LONGEST_LEAD_MS, LONGEST_MS};
 
 /// The table is a sine.
 pub fn table_is_a_sine()
@@ -46,4 +48,10 @@ pub fn worked_sounds()
     ensures first_samples { FirstSamples }
     ensures short_keying { ShortKeying }
     ensures short_file { ShortFile }
+{}
+
+/// The longest times of a cadence, in ms.
+pub fn constants()
+    ensures longest_lead_ms { LONGEST_LEAD_MS ≡ 60000 }
+    ensures longest_ms { LONGEST_MS ≡ 10000 }
 {}

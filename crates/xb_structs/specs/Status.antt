@@ -1,5 +1,11 @@
 -- The numbers by which calls answer callers of other languages.
 use Rattle.std.specs.Prelude.{ℕ}
+use Rattle.xb_structs.specs.declared.not_heard.NotHeard.{NotHeard}
+use Rattle.xb_structs.specs.declared.not_heard.NotHeard.TheVariants as heard
+use Rattle.xb_structs.specs.declared.number.NotRouted.{NotRouted}
+use Rattle.xb_structs.specs.declared.number.NotRouted.TheVariants as number
+use Rattle.xb_structs.specs.declared.printing.PrintFault.{PrintFault}
+use Rattle.xb_structs.specs.declared.printing.PrintFault.TheVariants as print
 use Rattle.xb_structs.specs.declared.refusal.Refusal.{Refusal}
 use Rattle.xb_structs.specs.declared.refusal.Refusal.TheVariants as refusal
 use Rattle.xb_routes.specs.declared.fault.RouteFault.{RouteFault}
@@ -27,6 +33,28 @@ fault_status (fault.Delete i) = 15
 fault_status (fault.Prefix i) = 16
 fault_status (fault.NothingToKey i) = 17
 fault_status (fault.Twice i) = 18
+
+-- of what is not heard on a line
+abbrev pub not_heard_status : NotHeard → ℕ
+not_heard_status heard.NotOpened = 3
+not_heard_status heard.Line = 4
+not_heard_status heard.Room = 7
+not_heard_status heard.Digit = 19
+not_heard_status heard.Closed = 20
+not_heard_status heard.Seized = 21
+not_heard_status heard.NotSeized = 22
+
+-- of a number that gets no keying
+abbrev pub not_routed_status : NotRouted → ℕ
+not_routed_status number.NotOpened = 3
+not_routed_status number.Room = 7
+not_routed_status number.Digit = 19
+not_routed_status number.Incomplete = 23
+
+-- of an entry that is not printed
+abbrev pub print_status : PrintFault → ℕ
+print_status print.Room = 7
+print_status print.Marks = 24
 
 -- the limit or the route that a fault names
 abbrev pub fault_place : RouteFault → ℕ

@@ -16,7 +16,8 @@
 //!   the row that gives it, by the line's count of entries, each is the next line of the tape.
 //! - `laws::keeps_promises`: the marks of a line are those of a live office, nothing taken back or missing.
 //! - `order_of`, `put_marks`, `digits_of` and `put_digits` are shared with what is sent on (`xb_onward`).
-//! - `take_by_status`, `refusal_status`, `fault_status`: the answers to callers of other languages.
+//! - `take_by_status`, and `refusal_status`, `fault_status` and the others: the answers to callers of other
+//!   languages, one list of numbers for all.
 #![tactic(auto)]
 
 mod calls;
@@ -61,6 +62,9 @@ pub use route::PlainRoute;
 pub use row::PlainRow;
 pub use row_signals::{PlainSignal, signals};
 pub use search::deciding;
-pub use status::{DONE, fault_place, fault_status, refusal_status};
+pub use status::{
+    DONE, fault_place, fault_status, not_heard_status, not_routed_status, print_status,
+    refusal_status,
+};
 pub use table::PlainTable;
 pub use taking::take;

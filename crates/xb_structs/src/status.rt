@@ -1,7 +1,11 @@
 // The numbers by which a call answers a caller of another language.
 ghost use Rattle.std.specs.Prelude.{◌≡◌, ◌≢◌};
-ghost use Rattle.xb_structs.specs.Status.{fault_place, fault_status, refusal_status};
+ghost use Rattle.xb_structs.specs.Status.{fault_place, fault_status, not_heard_status, not_routed_status, print_status};
+ghost use Rattle.xb_structs.specs.Status.{refusal_status};
 
+use crate::not_heard::NotHeard;
+use crate::number::NotRouted;
+use crate::printing::PrintFault;
 use crate::refusal::Refusal;
 use xb_routes::RouteFault;
 
@@ -40,6 +44,46 @@ pub fn fault_status(fault: RouteFault) -> u32
         RouteFault::Prefix(_) => 16,
         RouteFault::NothingToKey(_) => 17,
         RouteFault::Twice(_) => 18,
+    }
+}
+
+/// The status of what is not heard.
+pub fn not_heard_status(why: NotHeard) -> u32
+    ensures value { result ≡ not_heard_status why }
+    ensures not_done { result ≢ 0 }
+{
+    match why {
+        NotHeard::NotOpened => 3,
+        NotHeard::Line => 4,
+        NotHeard::Room => 7,
+        NotHeard::Digit => 19,
+        NotHeard::Closed => 20,
+        NotHeard::Seized => 21,
+        NotHeard::NotSeized => 22,
+    }
+}
+
+/// The status of a number that gets no keying.
+pub fn not_routed_status(why: NotRouted) -> u32
+    ensures value { result ≡ not_routed_status why }
+    ensures not_done { result ≢ 0 }
+{
+    match why {
+        NotRouted::NotOpened => 3,
+        NotRouted::Room => 7,
+        NotRouted::Digit => 19,
+        NotRouted::Incomplete => 23,
+    }
+}
+
+/// The status of an entry that is not printed.
+pub fn print_status(fault: PrintFault) -> u32
+    ensures value { result ≡ print_status fault }
+    ensures not_done { result ≢ 0 }
+{
+    match fault {
+        PrintFault::Room => 7,
+        PrintFault::Marks => 24,
     }
 }
 

@@ -49,6 +49,6 @@ delivers-by bytes name request office input result old new has form line waits k
 -- the file has no table
 pub no-table : (bytes : Bytes) (name : List ℕ) (request : Request) (input : Option (List ℕ)) (f : TableFault)
     (out : Option (List ℕ)) → IsFaultOfFile bytes name f → Delivers bytes name request input (Err (of_table f)) out out
-no-table bytes name request input (table.File error) out is = Keeps-refl out
+no-table bytes name request input (table.File f) out is = (is, Keeps-refl out)
 no-table bytes name request input (table.Text f) out is = (is, Keeps-refl out)
 no-table bytes name request input table.NoMemory out is = inl (Keeps-refl out)

@@ -10,5 +10,3 @@ pub mod Written
 pub mod Relayed
 pub mod Taken
 pub mod Delivered
-pub mod AskedTables
-pub mod Noted

@@ -5,7 +5,6 @@ pub mod Objects
 pub mod Entries
 pub mod Written
 pub mod Relaying
-pub mod Rules
 pub mod Options
 pub mod Program
 pub mod Constants

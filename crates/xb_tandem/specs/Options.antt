@@ -1,21 +1,25 @@
 -- What the words of the command line ask for, as clap reads them.
-use Rattle.std.specs.Prelude.{ℕ, ◌≡◌, Bool, true, false, List, if◌then◌else◌, Option, Some, None, codes, nat_lt, option_and_then, option_map, unwrap_or}
+use Rattle.std.specs.Prelude.{ℕ, ◌≡◌, ◌&&◌, Bool, true, false, List, if◌then◌else◌, Option, Some, None, codes, nat_lt, option_and_then, option_map, unwrap_or}
+use Rattle.std.specs.Borrow.{Bor}
+use Rattle.std.specs.Str.{bytes_eq}
 use Rattle.clap.specs.Walk.{Row, Text, first_of}
-use Rattle.xb_command.specs.Given.{AskForNothing, AsksFor, ReadsFlag, ReadsNumber, given_by}
+use Rattle.xb_command.specs.Given.{ReadsFlag, ReadsNumber, given_by}
 use Rattle.xb_incoming.specs.declared.key.TheConstants.{TIME_OUT_MS}
 use Rattle.xb_model.specs.declared.line.TheConstants.{LINES}
+use Rattle.xb_tandem.specs.declared.request.Asked.{Asked}
 use Rattle.xb_tandem.specs.declared.request.Form.{Form}
 use Rattle.xb_tandem.specs.declared.request.Form.TheVariants as forms
 use Rattle.xb_tandem.specs.declared.request.Request.{Request}
 use Rattle.xb_tandem.specs.declared.words.Options.{Options}
-use Rattle.xb_tandem.specs.Rules.{command_of_words}
 
 -- what clap matched says these options
 pub record Say (matched : List Row) (options : Options) : Type 0 where
-  pub json : ReadsFlag (given_by matched (codes "json")) options.json
-  pub rows : ReadsFlag (given_by matched (codes "rows")) options.rows
+  pub table : option_map (λ text. text.now) options.table ≡ first_of (codes "TABLE") matched
+  pub keys : option_map (λ text. text.now) options.keys ≡ first_of (codes "KEYS") matched
   pub line : ReadsNumber (given_by matched (codes "line")) options.line
   pub timeout : ReadsNumber (given_by matched (codes "timeout")) options.timeout
+  pub json : ReadsFlag (given_by matched (codes "json")) options.json
+  pub rows : ReadsFlag (given_by matched (codes "rows")) options.rows
 
 -- the line that is given, or line 0
 abbrev pub line_of : Option ℕ → Option ℕ
@@ -41,18 +45,20 @@ request_of options =
       timeout_ms = timeout_of options.timeout;
     }) (line_of options.line)) (form_of options.json options.rows)
 
--- what clap matched says these options, and names this table
-abbrev pub SayAll : List Row → Options × Option Text → Type 0
-SayAll rows (options, table) = Say rows options × (table ≡ first_of (codes "table") rows)
+-- a word is standard input
+abbrev pub is_input : Text → Bool
+is_input name = bytes_eq name (codes "-")
 
-abbrev pub asked_of : Options × Option Text → Option (Request × Text)
-asked_of (options, None) = None
-asked_of (options, Some table) = option_map (λ request. (request, table)) (request_of options)
+-- the table is standard input, and the keys are too, since no other file is named
+abbrev pub are_both : Text → Option (Bor Text) → Bool
+are_both table None = is_input table
+are_both table (Some keys) = is_input table && is_input keys.now
 
--- clap takes the words, and they ask for this, by this table
-abbrev pub Asks : List Text → Request → Text → Type 0
-Asks words request table = AsksFor command_of_words SayAll asked_of words (request, table)
+-- what they ask for by this table
+abbrev pub asked_with : Options → Bor Text → Option Asked
+asked_with options table = if are_both table.now options.keys then None
+    else option_map (λ request. record { request = request; table = table; keys = options.keys }) (request_of options)
 
--- clap refuses the words, or they ask for what there is not
-abbrev pub AreRefused : List Text → Type 0
-AreRefused words = AskForNothing command_of_words SayAll asked_of words
+-- what they ask for, by which table and of which keys
+abbrev pub asked_by : Options → Option Asked
+asked_by options = option_and_then (asked_with options) options.table

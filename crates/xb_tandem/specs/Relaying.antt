@@ -5,8 +5,9 @@ use Rattle.std.specs.Option.{option_to_list}
 use Rattle.xb_command.specs.Files.{Bytes}
 use Rattle.xb_incoming.specs.declared.key.TimedKey.{TimedKey}
 use Rattle.xb_incoming.specs.Machine.{HasTaken}
-use Rattle.xb_outgoing.specs.Files.{HasTable}
-use Rattle.xb_outgoing.specs.Tables.{Outgoing, outgoing_of_text}
+use Rattle.xb_outgoing.specs.declared.fault.TableFault.TheVariants as file
+use Rattle.xb_outgoing.specs.Files.{HasTable, IsFaultOfTable}
+use Rattle.xb_outgoing.specs.Tables.{Outgoing}
 use Rattle.xb_text.specs.Writing.{AppendsBeginning}
 use Rattle.xb_tandem.specs.declared.fault.TandemFault.{TandemFault}
 use Rattle.xb_tandem.specs.declared.fault.TandemFault.TheVariants as fault
@@ -17,13 +18,6 @@ use Rattle.xb_tandem.specs.Entries.{left_out, orders_of_keys, page_of_keys, told
 use Rattle.xb_tandem.specs.KeyLines.{key_of_line}
 use Rattle.xb_tandem.specs.TextLines.{keys_of_text, keys_read, key_read, text_lines}
 use Rattle.xb_tandem.specs.Written.{HasWritten}
-
--- the file could not be read, or memory ran out, or this is the fault of its text
-abbrev pub IsFaultOfTable : Bytes → List ℕ → TandemFault → Type 0
-IsFaultOfTable bytes name (fault.File error) = Unit {0}
-IsFaultOfTable bytes name fault.NoMemory = Unit {0}
-IsFaultOfTable bytes name (fault.Table f) = IfSome (bytes name) (λ text. outgoing_of_text text ≡ Err f)
-IsFaultOfTable bytes name f = ⊥
 
 -- an office that has taken no key, and written nothing
 pub record IsFresh (office : Office) : Type 0 where
@@ -94,9 +88,10 @@ pub record TakesBy (bytes : Bytes) (name : List ℕ) (request : Request) (input 
 
 abbrev pub Delivers : Bytes → List ℕ → Request → Option (List ℕ) → Result ℕ TandemFault
     → Option (List ℕ) → Option (List ℕ) → Type 0
-Delivers bytes name request input (Err (fault.File error)) old new = Keeps old new
+Delivers bytes name request input (Err (fault.File f)) old new =
+    IsFaultOfTable bytes name (file.File f) × Keeps old new
 Delivers bytes name request input (Err (fault.Table f)) old new =
-    IsFaultOfTable bytes name (fault.Table f) × Keeps old new
+    IsFaultOfTable bytes name (file.Text f) × Keeps old new
 Delivers bytes name request input (Err fault.NoMemory) old new =
     Keeps old new ⊎ TakesBy bytes name request input (Err fault.NoMemory) old new
 Delivers bytes name request input result old new = TakesBy bytes name request input result old new

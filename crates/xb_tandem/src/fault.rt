@@ -2,8 +2,8 @@
 ghost use Rattle.std.specs.Prelude.{◌≡◌};
 
 use std::alloc::AllocError;
-use std::io;
 use thiserror::Error;
+use xb_command::OpenFault;
 use xb_model::RowFault;
 use xb_outgoing::{OutgoingFault, TableFault};
 use xb_text::WriteFault;
@@ -49,10 +49,10 @@ pub(crate) enum WritingFault {
 /// Why an office stops. The table comes first, and then the keys. Memory may run out at any time, which is always
 /// `NoMemory`.
 #[derive(Debug, Drop, Error)]
-pub enum TandemFault {
-    /// The file of the table could not be read. Nothing was written.
+pub enum TandemFault<'a> {
+    /// The file of the table could not be read, or is no text. Nothing was written.
     #[error("the route table could not be read: {0}")]
-    File(io::Error),
+    File(OpenFault<'a>),
     /// The table is refused. Nothing was written.
     #[error("route table: {0}")]
     Table(OutgoingFault),
@@ -104,12 +104,12 @@ impl From<WriteFault> for WritingFault {
     }
 }
 
-impl From<TableFault> for TandemFault {
+impl<'a> From<TableFault<'a>> for TandemFault<'a> {
     ghost use Rattle.xb_tandem.specs.Faults.{of_table};
 
     ghost from_gives = { λ fault e. e ≡ of_table fault };
 
-    fn from(fault: TableFault) -> TandemFault {
+    fn from(fault: TableFault<'a>) -> TandemFault<'a> {
         match fault {
             TableFault::File(error) => TandemFault::File(error),
             TableFault::Text(fault) => TandemFault::Table(fault),
@@ -118,12 +118,12 @@ impl From<TableFault> for TandemFault {
     }
 }
 
-impl From<WritingFault> for TandemFault {
+impl<'a> From<WritingFault> for TandemFault<'a> {
     ghost use Rattle.xb_tandem.specs.Faults.{of_writing};
 
     ghost from_gives = { λ fault e. e ≡ of_writing fault };
 
-    fn from(fault: WritingFault) -> TandemFault {
+    fn from(fault: WritingFault) -> TandemFault<'a> {
         match fault {
             WritingFault::Write => TandemFault::Write,
             WritingFault::NoMemory => TandemFault::NoMemory,
@@ -131,12 +131,12 @@ impl From<WritingFault> for TandemFault {
     }
 }
 
-impl From<ReadingFault> for TandemFault {
+impl<'a> From<ReadingFault> for TandemFault<'a> {
     ghost use Rattle.xb_tandem.specs.Faults.{of_reading};
 
     ghost from_gives = { λ fault e. e ≡ of_reading fault };
 
-    fn from(fault: ReadingFault) -> TandemFault {
+    fn from(fault: ReadingFault) -> TandemFault<'a> {
         match fault {
             ReadingFault::Read => TandemFault::Read,
             ReadingFault::NoMemory => TandemFault::NoMemory,

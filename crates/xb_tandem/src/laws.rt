@@ -1,7 +1,6 @@
 //! What the definitions give: each law is the contract of a function that does nothing.
 ghost use Rattle.xb_tandem.specs.Constants.{AreConstants};
 ghost use Rattle.xb_tandem.specs.Entries.{PagesAreTapes, PulsesAreHeard};
-ghost use Rattle.xb_tandem.specs.Program.{UsageNamesEachOption};
 
 /// The most bytes of a text line, the two silences of a register, and the most digits that it counts, each as it is.
 pub fn constants()
@@ -20,10 +19,4 @@ pub fn pages_are_tapes()
 #[tactic(auto, using(crate::proofs::Heard::pulses_are_heard))]
 pub fn pulses_are_heard()
     ensures { PulsesAreHeard }
-{}
-
-/// The line of refused words names each option of the command.
-#[tactic(auto, unfolding(clap::proofs::OnLiterals::clap_on_literals, xb_command::specs::Usages::has_part))]
-pub fn usage_names_each_option()
-    ensures { UsageNamesEachOption }
 {}

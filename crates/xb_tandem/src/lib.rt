@@ -10,8 +10,9 @@
 //! - `laws::pages_are_tapes`: the page is that of the entries that are keyed or refused, as `mfbank` defines them.
 //! - `laws::pulses_are_heard`: the rows dial the numbers that go out by dial pulses, and every office whose plan
 //!   completes them hears exactly these.
-//! - `laws::constants`, `laws::usage_names_each_option`.
-//! - `attend`: `Attends` of this.
+//! - `laws::constants`.
+//! - `attend`: the words by the table of the program, and `relay` of the file of keys that they name, or of the input
+//!   (`AttendsBy` of `xb_command`). The table and the keys are not both standard input.
 //!
 //! What is said of bytes is said of readers whose bytes and writers whose contents a contract can name.
 #![tactic(auto)]
@@ -34,3 +35,4 @@ pub use lines::MOST_LINE_BYTES;
 pub use program::attend;
 pub use relaying::relay;
 pub use request::{Asked, Form, Request};
+pub use words::PROGRAM;

@@ -19,13 +19,13 @@ use xb_outgoing::read_table;
 const MOST_LINES: u64 = 1 << 63;
 
 // Takes the key of text line `number`, if it says one.
-fn take_line<W: Write>(
+fn take_line<'a, W: Write>(
     alloc: Global,
     office: &mut Office,
     number: u64,
     line: &[u8],
     out: &mut W,
-) -> Result<(), TandemFault>
+) -> Result<(), TandemFault<'a>>
     requires { office.old.keyed + office.old.refused + office.old.dialled + 1 < 2 ^ 64 }
     ensures written { (limit : ℕ) (keys : List Key) (start : Option (List ℕ)) →
         HasWritten limit office.old keys start (W.contents out.old) →
@@ -45,12 +45,12 @@ fn take_line<W: Write>(
 }
 
 // Takes the keys of a text to its end, by an office that has taken none.
-fn take_lines<R: Read, W: Write>(
+fn take_lines<'a, R: Read, W: Write>(
     alloc: Global,
     office: &mut Office,
     keys: &mut R,
     out: &mut W,
-) -> Result<usize, TandemFault>
+) -> Result<usize, TandemFault<'a>>
     requires fresh { IsFresh office.old }
     ensures page { Relays office.old (R.remaining keys.old) result (W.contents out.old) (W.contents out.new) }
     ensures kind { IfErr result IsOfKeys }
@@ -77,15 +77,15 @@ fn take_lines<R: Read, W: Write>(
 ///
 /// What the contract says of bytes it says of readers whose bytes and writers whose contents are known to contracts
 /// (byte slices, lists), which those of a process are not.
-pub fn relay<F: Files, R: Read, W: Write>(
+pub fn relay<'a, F: Files, R: Read, W: Write>(
     alloc: Global,
     files: &F,
-    table: &str,
+    table: &'a str,
     request: Request,
     keys: &mut R,
     out: &mut W,
-) -> Result<usize, TandemFault>
-    ensures { Delivers (F.bytes files.now) table.now request (R.remaining keys.old) result
+) -> Result<usize, TandemFault<'a>>
+    ensures { Delivers (F.bytes files.now) table.entry.now request (R.remaining keys.old) result
         (W.contents out.old) (W.contents out.new) }
 {
     let table = read_table(alloc, files, table)?;

@@ -24,10 +24,12 @@ pub struct Request {
 }
 
 /// What the words ask for.
-#[derive(Clone, Copy, Debug)]
+#[derive(Clone, Copy, Debug, Drop)]
 pub struct Asked<'a> {
     /// How keys are taken, and how calls are told.
     pub request: Request,
-    /// The file of the route table.
+    /// The file of the route table; `-` is standard input.
     pub table: &'a str,
+    /// The file of the keys; without it, or with `-`, the input.
+    pub keys: Option<&'a str>,
 }

@@ -1,4 +1,10 @@
-pub mod AskedKeys
+pub mod Lengths
+pub mod Silences
+pub mod Follows
+pub mod Ends
+pub mod Readings
+pub mod Begun
+pub mod HeardEntries
 pub mod NoisyKeys
 pub mod MuLawKeys
 pub mod Unset

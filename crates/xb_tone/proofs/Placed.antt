@@ -2,15 +2,14 @@
 use Rattle.std.proofs.Common.{◌≡◌, ℕ, ◌<◌, List, length, Option, Some, None, Err, sym, subst, inl, inr, refl}
 use Rattle.std.specs.Prelude.{IfSome}
 use Rattle.std.proofs.KnownBytes.{Keeps-refl}
-use Rattle.xb_placed.specs.declared.entry.PlacedEntry.{PlacedEntry}
-use Rattle.xb_placed.specs.Cuts.{lines_of_cuts}
-use Rattle.xb_placed.specs.Sounds.{bytes_of}
-use Rattle.xb_placed.specs.Times.{AreInOrder}
+use Rattle.xb_tone.specs.declared.entry.PlacedEntry.{PlacedEntry}
+use Rattle.xb_tone.specs.Cuts.{lines_of_cuts}
+use Rattle.xb_tone.specs.Sounds.{bytes_of}
+use Rattle.xb_tone.specs.Times.{AreInOrder}
 use Rattle.xb_text.specs.Writing.{AppendsBeginning}
 use Rattle.xb_tone.specs.declared.fault.ToneFault.{ToneFault}
 use Rattle.xb_tone.specs.declared.request.Request.{Request}
-use Rattle.xb_tone.specs.Placing.{DeliversAt, Places, SoundsAt, TellsCuts}
-use Rattle.xb_tone.specs.Rules.{program}
+use Rattle.xb_tone.specs.Placing.{DeliversAt, Places, SoundsAt, TellsCuts, program}
 
 sounds : (request : Request) (text : List ℕ) (entries : List PlacedEntry) → Places request.choice text entries
     → 0 < length entries → AreInOrder entries

@@ -10,8 +10,8 @@ use Rattle.xb_signal.specs.declared.fault.KeysFault.{KeysFault}
 use Rattle.xb_signal.specs.declared.fault.KeysFault.TheVariants as keys_fault
 use Rattle.xb_signal.specs.declared.fault.SignalFault.{SignalFault}
 use Rattle.xb_signal.specs.declared.fault.SignalFault.TheVariants as signal_fault
-use Rattle.xb_placed.specs.declared.fault.TextFault.{TextFault}
-use Rattle.xb_placed.specs.declared.fault.TextFault.TheVariants as text_fault
+use Rattle.xb_tone.specs.declared.objects_fault.TextFault.{TextFault}
+use Rattle.xb_tone.specs.declared.objects_fault.TextFault.TheVariants as text_fault
 use Rattle.xb_tone.specs.declared.at_fault.AtFault.TheVariants as at_fault
 use Rattle.xb_tone.specs.declared.fault.ToneFault.{ToneFault}
 use Rattle.xb_tone.specs.declared.fault.ToneFault.TheVariants as fault

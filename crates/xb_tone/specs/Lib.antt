@@ -1,8 +1,14 @@
+pub mod Entries
+pub mod Sounds
+pub mod Times
+pub mod Cuts
+pub mod Objects
+pub mod Texts
+pub mod Laws
 pub mod Givens
 pub mod Manners
 pub mod Faults
 pub mod Options
-pub mod Rules
 pub mod Placing
 pub mod Sounding
 pub mod Program

@@ -1,5 +1,5 @@
 -- How words of keys are to sound, by the options of the command line.
-use Rattle.std.specs.Prelude.{ℕ, ◌≡◌, suc, ◌&&◌, ◌||◌, List, Bool, if◌then◌else◌, Option, Some, None, codes, is_some, nat_le, option_map, ℤ, pos, negsuc, neg_ℤ, ◌+ℤ◌, unsigned_abs}
+use Rattle.std.specs.Prelude.{ℕ, ◌≡◌, suc, ◌&&◌, ◌||◌, List, Bool, false, if◌then◌else◌, Option, Some, None, bytes_eq, codes, is_some, nat_le, option_map, ℤ, pos, negsuc, neg_ℤ, ◌+ℤ◌, unsigned_abs}
 use Rattle.std.specs.Option.{option_and_then, unwrap_or}
 use Rattle.clap.specs.Walk.{Row, Text, first_of}
 use Rattle.xb_command.specs.Given.{ReadsFlag, ReadsNumber, given_by}
@@ -46,6 +46,11 @@ beside_said text =
 abbrev pub beside_of : Option Text → Given Beside
 beside_of text = given_of beside_said text
 
+-- bytes of mu-law, alone or in a WAV file
+abbrev pub is_mu_law : Option Text → Bool
+is_mu_law None = false
+is_mu_law (Some form) = bytes_eq form (codes "ulaw") || bytes_eq form (codes "wav-ulaw")
+
 -- what clap matched says this
 pub record SayManner (rows : List Row) (manner : Manner) : Type 0 where
   pub level : manner.level ≡ figure_of (first_of (codes "level") rows)
@@ -54,12 +59,12 @@ pub record SayManner (rows : List Row) (manner : Manner) : Type 0 where
   pub skew : manner.skew ≡ time_of_key (first_of (codes "skew") rows)
   pub hole : manner.hole ≡ hole_of (first_of (codes "hole") rows)
   pub phase : ReadsFlag (given_by rows (codes "phase")) manner.phase
-  pub beside : manner.beside ≡ beside_of (first_of (codes "with") rows)
+  pub beside : manner.beside ≡ beside_of (first_of (codes "tone") rows)
   pub hum : manner.hum ≡ amplitude_given (first_of (codes "hum") rows)
   pub noise_peak : ReadsNumber (given_by rows (codes "noise-peak")) manner.noise_peak
   pub seed : ReadsNumber (given_by rows (codes "seed")) manner.seed
   pub clip : ReadsFlag (given_by rows (codes "clip")) manner.clip
-  pub ulaw : ReadsFlag (given_by rows (codes "ulaw")) manner.ulaw
+  pub ulaw : manner.ulaw ≡ is_mu_law (first_of (codes "format") rows)
 
 -- the low tone of a key has the level, -7.2 dBm0 unless it is given, and the high one as much more as the twist
 abbrev pub amplitudes_of : Manner → Option (ℕ × ℕ)

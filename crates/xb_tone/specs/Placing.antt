@@ -1,23 +1,22 @@
 -- What is written of entries that lie in time.
-use Rattle.std.specs.Prelude.{◌≡◌, ◌⊎◌, ℕ, ◌^◌, ◌<◌, ◌≤◌, ◌==◌, ◌&&◌, List, [], Bool, true, false, length, Option, Some, Result, Ok, Err, IfSome}
+use Rattle.std.specs.Prelude.{◌≡◌, ◌⊎◌, ℕ, ◌^◌, ◌<◌, ◌≤◌, ◌==◌, ◌&&◌, List, [], Bool, true, false, length, Option, Some, Result, Ok, Err, IfSome, codes}
 use Rattle.std.specs.Io.KnownBytes.{Appends, Keeps}
 use Rattle.std.specs.List.{filter, list_any}
 use Rattle.xb_text.specs.Writing.{AppendsBeginning}
 use Rattle.xb_sound.specs.Wavs.{wav_length}
-use Rattle.xb_placed.specs.declared.entry.PlacedEntry.{PlacedEntry}
-use Rattle.xb_placed.specs.declared.text.TheConstants.{MOST_TEXT_BYTES}
-use Rattle.xb_placed.specs.Cuts.{lines_of_cuts}
-use Rattle.xb_placed.specs.Entries.{is_keyed}
-use Rattle.xb_placed.specs.Sounds.{bytes_of, sound_at}
-use Rattle.xb_placed.specs.Texts.{entries_of_text}
-use Rattle.xb_placed.specs.Times.{AreInOrder, early_line}
+use Rattle.xb_tone.specs.declared.entry.PlacedEntry.{PlacedEntry}
+use Rattle.xb_tone.specs.declared.text.TheConstants.{MOST_TEXT_BYTES}
+use Rattle.xb_tone.specs.Cuts.{lines_of_cuts}
+use Rattle.xb_tone.specs.Entries.{is_keyed}
+use Rattle.xb_tone.specs.Sounds.{bytes_of, sound_at}
+use Rattle.xb_tone.specs.Texts.{entries_of_text}
+use Rattle.xb_tone.specs.Times.{AreInOrder, early_line}
 use Rattle.xb_tone.specs.declared.at_fault.AtFault.TheVariants as at_fault
 use Rattle.xb_tone.specs.declared.fault.ToneFault.{ToneFault}
 use Rattle.xb_tone.specs.declared.fault.ToneFault.TheVariants as fault
 use Rattle.xb_tone.specs.declared.request.Choice.{Choice}
 use Rattle.xb_tone.specs.declared.request.Choice.TheVariants as choice
 use Rattle.xb_tone.specs.declared.request.Request.{Request}
-use Rattle.xb_tone.specs.Rules.{program}
 
 -- whether an entry is asked for
 abbrev pub is_asked : Choice → PlacedEntry → Bool
@@ -50,6 +49,10 @@ pub record PlacesEarly (choice : Choice) (text : List ℕ) (n : ℕ) : Type 0 wh
   pub entries : List PlacedEntry
   pub placed : Places choice text entries
   pub early : early_line entries ≡ Some n
+
+-- the program's name
+abbrev pub program : List ℕ
+program = codes "mftone"
 
 -- the sound of what a text tells of what is asked for, which is some, each entry at its time; and the lines that tell
 -- which of them cut the one before it

@@ -99,7 +99,10 @@ Delivers request page (Err fault.Refused) old new =
 Delivers request page (Err fault.TooLongSound) old new =
     Keeps old new × IfSome page (λ text. (marks : List Mark) × Names request.choice text marks
     × (2 ^ 32 ≤ wav_length (sound_of request.cadence marks)))
-Delivers request page (Err f) old new = Keeps old new
+Delivers request page (Err (fault.Cadence f)) old new = Keeps old new
+Delivers request page (Err fault.Read) old new = Keeps old new
+Delivers request page (Err fault.NoMemory) old new = Keeps old new
+Delivers request page (Err f) old new = ⊥
 
 -- words of keys say segments, of which these are the bytes
 pub record SaysBytes (request : Request) (text bytes : List ℕ) : Type 0 where
@@ -129,5 +132,5 @@ abbrev pub Plays : Request → Option (List ℕ) → Bool → Result (Unit {0}) 
 Plays request None false result page left old new errors told =
     Delivers request page result old new × Keeps errors told
 Plays request None true result page left old new errors told = DeliversAt request page result old new errors told
-Plays request (Some text) at result page left old new errors told =
+Plays request (Some text) timed result page left old new errors told =
     Keeps page left × DeliversKeys request text result old new × Keeps errors told

@@ -1,7 +1,7 @@
 // Why entries that lie in time have no sound.
 
+use crate::LineFault;
 use thiserror::Error;
-use xb_placed::LineFault;
 
 /// Why entries that lie in time have no sound: the first of these, in this order. No sound was written.
 #[derive(Clone, Copy, Debug, PartialEq, Eq, Error)]

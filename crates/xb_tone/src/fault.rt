@@ -1,11 +1,11 @@
 // Why no sound is written.
 ghost use Rattle.std.specs.Prelude.{◌≡◌};
 
+use crate::TextFault;
 use crate::at_fault::AtFault;
 use std::alloc::AllocError;
 use thiserror::Error;
 use xb_page::PageFault;
-use xb_placed::TextFault;
 use xb_signal::{KeysFault, SignalFault};
 use xb_sound::{CadenceFault, SoundFault};
 use xb_text::ReadFault;

@@ -39,13 +39,13 @@ pub(crate) fn play_asked<R: Read, W: Write, E: Write>(
     err: &mut E,
 ) -> Result<(), ToneFault>
     ensures judged { JudgesCadence asked.entry.request.cadence result }
-    ensures sound { Plays asked.entry.request (named asked.entry.keys) asked.entry.at result
+    ensures sound { Plays asked.entry.request (named asked.entry.keys) asked.entry.timed result
         (R.remaining page.old) (R.remaining page.new) (W.contents out.old) (W.contents out.new)
         (E.contents err.old) (E.contents err.new) }
 {
     match asked.keys {
         Some(words) => play_keys(alloc, asked.request, words, out),
-        None if asked.at => play_at(alloc, asked.request, page, out, err),
+        None if asked.timed => play_at(alloc, asked.request, page, out, err),
         None => play(alloc, asked.request, page, out),
     }
 }

@@ -1,7 +1,7 @@
 // How words of keys are to sound, by the options of the command line.
 ghost use Rattle.std.specs.Prelude.{◌≡◌};
 ghost use Rattle.xb_tone.specs.Givens.{figure_of, time_of_key};
-ghost use Rattle.xb_tone.specs.Manners.{SayManner, amplitude_given, beside_of, beside_said, form_of, has_manner, high_late, hole_of, hole_said, hz_said, level_said, low_late, pitch_of, setting_of, shape_of, steady_of};
+ghost use Rattle.xb_tone.specs.Manners.{SayManner, amplitude_given, beside_of, beside_said, form_of, has_manner, high_late, hole_of, hole_said, hz_said, is_mu_law, level_said, low_late, pitch_of, setting_of, shape_of, steady_of};
 ghost use Rattle.xb_tone.specs.Options.{named};
 
 use crate::given::{Given, given_as, is_given, ms_said, said_or, signed_ms, signed_tenths};
@@ -52,7 +52,7 @@ const STANDARD_LEVEL: i16 = -72;
 const MOST_DETUNE: u16 = 500;
 
 // The greatest peak of noise.
-const MOST_NOISE_PEAK: u32 = 32_767;
+pub(crate) const MOST_NOISE_PEAK: u32 = 32_767;
 
 // The tenths that an option is given.
 fn figure_of(text: Option<&str>) -> Given<i16>
@@ -75,7 +75,7 @@ fn time_of_key(text: Option<&str>) -> Given<i16>
 }
 
 // The hole that a text says, as `10@20`.
-fn hole_said(text: &[u8]) -> Option<Hole>
+pub(crate) fn hole_said(text: &[u8]) -> Option<Hole>
     ensures { result ≡ hole_said text.now }
 {
     let (ms, from_ms) = cut_at(b'@', text)?;
@@ -96,7 +96,7 @@ fn hole_of(text: Option<&str>) -> Given<Hole>
 }
 
 // The amplitude of the level that a text says.
-fn level_said(text: &[u8]) -> Option<u16>
+pub(crate) fn level_said(text: &[u8]) -> Option<u16>
     ensures { result ≡ level_said text.now }
 {
     amplitude_of(signed_tenths(text)?, 0)
@@ -115,7 +115,7 @@ fn hz_said(text: &[u8]) -> Option<u16>
 }
 
 // The steady tone that a text says, as `2600:-13.5`.
-fn beside_said(text: &[u8]) -> Option<Beside>
+pub(crate) fn beside_said(text: &[u8]) -> Option<Beside>
     ensures { result ≡ beside_said text.now }
 {
     let (hz, level) = cut_at(b':', text)?;
@@ -145,8 +145,18 @@ fn amplitude_given(text: Option<&str>) -> Given<u16>
     }
 }
 
+// Whether the form that is named is bytes of mu-law, alone or in a WAV file.
+pub(crate) fn is_mu_law(form: Option<&str>) -> bool
+    ensures { result ≡ is_mu_law (named form.entry) }
+{
+    match form {
+        Some(form) => form == "ulaw" || form == "wav-ulaw",
+        None => false,
+    }
+}
+
 // What the words say of it.
-pub(crate) fn manner_of(words: &Words) -> Manner
+pub(crate) fn manner_of(words: &Words<'_>) -> Manner
     ensures { SayManner words.now result }
 {
     Manner {
@@ -156,17 +166,17 @@ pub(crate) fn manner_of(words: &Words) -> Manner
         skew: time_of_key(words.text("skew")),
         hole: hole_of(words.text("hole")),
         phase: words.flag("phase"),
-        beside: beside_of(words.text("with")),
+        beside: beside_of(words.text("tone")),
         hum: amplitude_given(words.text("hum")),
         noise_peak: words.number("noise-peak"),
         seed: words.number("seed"),
         clip: words.flag("clip"),
-        ulaw: words.flag("ulaw"),
+        ulaw: is_mu_law(words.text("format")),
     }
 }
 
 // The pitch of a detuning in tenths of a percent, which is 50 % at most.
-fn pitch_of(detune: i16) -> Option<u16>
+pub(crate) fn pitch_of(detune: i16) -> Option<u16>
     ensures { result ≡ pitch_of detune }
 {
     if detune.unsigned_abs() <= MOST_DETUNE {

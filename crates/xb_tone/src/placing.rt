@@ -1,22 +1,21 @@
 // From entries on a reader to their sound, each at its time, on a writer.
 ghost use Rattle.std.specs.Prelude.{◌≡◌, ◌<◌, ◌≤◌, IfErr, IfOk, IfSome, OnOk, length};
 ghost use Rattle.std.specs.List.{list_any};
-ghost use Rattle.xb_placed.specs.declared.text.TheConstants.{MOST_TEXT_BYTES};
-ghost use Rattle.xb_placed.specs.Cuts.{lines_of_cuts};
-ghost use Rattle.xb_placed.specs.Times.{AreInOrder};
-ghost use Rattle.xb_tone.specs.Placing.{DeliversAt, IsFaultOfEntries, IsFaultOfReading, Places, TellsCuts, entries_chosen, is_asked, sounds_at};
-ghost use Rattle.xb_tone.specs.Rules.{program};
+ghost use Rattle.xb_tone.specs.declared.text.TheConstants.{MOST_TEXT_BYTES};
+ghost use Rattle.xb_tone.specs.Cuts.{lines_of_cuts};
+ghost use Rattle.xb_tone.specs.Times.{AreInOrder};
+ghost use Rattle.xb_tone.specs.Placing.{DeliversAt, IsFaultOfEntries, IsFaultOfReading, Places, TellsCuts, entries_chosen, is_asked, program, sounds_at};
 ghost use Rattle.xb_tone.specs.Sounding.{JudgesCadence};
 
 use crate::at_fault::AtFault;
 use crate::fault::ToneFault;
-use crate::program::PROGRAM;
 use crate::request::{Choice, Request};
-use std::alloc::{AllocError, Global};
-use std::io::{Read, Write};
-use xb_placed::{
+use crate::words::NAME;
+use crate::{
     MOST_TEXT_BYTES, PlacedEntry, early_line, entries_of_text, lines_of_cuts, write_placed,
 };
+use std::alloc::{AllocError, Global};
+use std::io::{Read, Write};
 use xb_sound::Cadence;
 use xb_text::{ReadFault, read_whole, write_whole};
 
@@ -119,7 +118,7 @@ fn tell_cuts<E: Write>(
 ) -> Result<(), ToneFault>
     ensures { TellsCuts (lines_of_cuts program cadence entries.now) result (E.contents err.old) (E.contents err.new) }
 {
-    let lines = lines_of_cuts(alloc, PROGRAM, cadence, entries)?;
+    let lines = lines_of_cuts(alloc, NAME, cadence, entries)?;
     match write_whole(err, lines.as_bytes()) {
         Ok(()) => Ok(()),
         Err(_) => Err(ToneFault::At(AtFault::Untold)),

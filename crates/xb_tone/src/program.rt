@@ -1,49 +1,71 @@
 // The program: its words and a page in, a status and sound out.
+ghost use Rattle.std.specs.Prelude.{◌≡◌, true};
+ghost use Rattle.clap.specs.Faults.{is_simple_and_free};
 ghost use Rattle.xb_command.specs.Programs.{streams};
-ghost use Rattle.xb_command.specs.Commands.{texts_of};
-ghost use Rattle.xb_tone.specs.Program.{AttendsTone};
+ghost use Rattle.xb_command.specs.Tables.{command_by};
+ghost use Rattle.xb_command.specs.Works.{AttendsBy};
+ghost use Rattle.xb_tone.specs.Program.{by_tone};
 
 use crate::keying::play_asked;
-use crate::words::asked_by_words;
+use crate::request::Asked;
+use crate::words::asked_of;
 use std::alloc::Global;
 use std::io::{Read, Write};
-use xb_command::{DONE, tell_fault, tell_words};
+use xb_command::{
+    Answer, Call, DONE, Files, Program, Source, Work, ask_words, tell_fault, text_source,
+};
 
-// The program's name.
-pub(crate) const PROGRAM: &str = "mftone";
+impl<'a> Work<'a> for Asked<'a> {
+    ghost use Rattle.xb_tone.specs.Program.{by_tone};
 
-// The line of refused words.
-const USAGE: &[u8] = b"mftone: usage: mftone [--line N] [--entry N] [--lead N] [--kp N] [--key N] \
-[--gap N] [--raw] [--at] [--keys WORDS] [--level DBM0] [--twist DB] [--detune PERCENT] [--skew MS] \
-[--hole MS@MS] [--phase] [--with HZ:DBM0] [--hum DBM0] [--noise-peak N] [--seed N] [--clip] [--ulaw]\n";
+    ghost rules = { by_tone };
 
-/// Reads the words of the command line, the program's name first, and by them writes the sound of a page's
-/// calls, as `play` does, or of entries that lie in time, as `play_at` does, or of words of keys, as `play_keys` does,
-/// and then nothing is read. It returns the status of the process:
-///
-/// - `DONE`: the words ask for something, `out` got exactly its sound, and `err` nothing but what `play_at` tells;
-/// - `FAULT`: `play`, `play_at` or `play_keys` has a fault, or memory ran out while the words were read; `err` gets the fault as
-///   one line, and `out` got nothing, or the beginning of the sound where this was not written whole;
-/// - `WORDS_REFUSED`: the words are refused, or ask for help; `err` gets the usage as one line, the
-///   page is not read and `out` got nothing.
-///
-/// A fault in writing to `err` changes no status.
-pub fn attend<R: Read, W: Write, E: Write>(
+    fn ask(alloc: Global, call: &Call<'a>) -> Result<Asked<'a>, Answer<'a>> {
+        let words = match ask_words(alloc, call) {
+            Ok(words) => words,
+            Err(answer) => return Err(answer),
+        };
+        match asked_of(call, &words) {
+            Ok(asked) => Ok(asked),
+            Err(misfit) => Err(Answer::Unfit(misfit)),
+        }
+    }
+
+    fn source(&self) -> Source<'a> {
+        text_source(self.page)
+    }
+
+    fn run<F: Files, R: Read, W: Write, E: Write>(
+        self,
+        alloc: Global,
+        program: &Program<'a>,
+        _files: &F,
+        input: &mut R,
+        out: &mut W,
+        err: &mut E,
+    ) -> u8 {
+        match play_asked(alloc, self, input, out, err) {
+            Ok(()) => DONE,
+            Err(fault) => tell_fault(alloc, err, program.name, fault),
+        }
+    }
+}
+
+/// Reads the words of the command line, and by them writes the sound of a page's calls, as `play` does, or of entries
+/// that lie in time, as `play_at` does, or of words of keys, as `play_keys` does, and then nothing is read. It returns the
+/// status of the process, as `attend` of `xb_command` says.
+pub fn attend<F: Files, R: Read, W: Write, E: Write>(
     alloc: Global,
-    words: &[String],
-    page: &mut R,
+    call: &Call<'_>,
+    files: &F,
+    input: &mut R,
     out: &mut W,
     err: &mut E,
 ) -> u8
-    ensures { AttendsTone (texts_of words.now)
-        (streams (R.remaining page.old) (W.contents out.old) (E.contents err.old))
-        (streams (R.remaining page.new) (W.contents out.new) (E.contents err.new)) result }
+    requires { is_simple_and_free (command_by call.now.program.now) ≡ true }
+    ensures { AttendsBy by_tone call.now (F.bytes files.now)
+        (streams (R.remaining input.old) (W.contents out.old) (E.contents err.old))
+        (streams (R.remaining input.new) (W.contents out.new) (E.contents err.new)) result }
 {
-    match asked_by_words(alloc, words) {
-        Ok(asked) => match play_asked(alloc, asked, page, out, err) {
-            Ok(()) => DONE,
-            Err(fault) => tell_fault(alloc, err, PROGRAM, fault),
-        },
-        Err(fault) => tell_words(err, PROGRAM, USAGE, fault),
-    }
+    xb_command::attend::<Asked<'_>, F, R, W, E>(alloc, call, files, input, out, err)
 }

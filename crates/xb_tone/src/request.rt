@@ -28,12 +28,14 @@ pub struct Request {
 }
 
 /// What the words ask for.
-#[derive(Clone, Copy, Debug)]
+#[derive(Clone, Copy, Drop)]
 pub struct Asked<'a> {
+    /// The file of the page; without it, or with `-`, the input.
+    pub page: Option<&'a str>,
     /// Which calls sound, and how.
     pub request: Request,
     /// The words of keys that sound in place of a page's calls.
     pub keys: Option<&'a str>,
     /// Whether entries that lie in time sound in place of a page's calls.
-    pub at: bool,
+    pub timed: bool,
 }

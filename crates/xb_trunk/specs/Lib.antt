@@ -1,2 +1,5 @@
 pub mod Sounded
 pub mod Laws
+pub mod Starts
+pub mod Leads
+pub mod StartLaws

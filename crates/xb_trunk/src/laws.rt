@@ -1,5 +1,8 @@
 //! What the definitions give: each law is the contract of a function that does nothing.
 ghost use Rattle.xb_trunk.specs.Laws.{CallsSoundWhole, KeysAreHeard, NothingIsTakenBack, TimeIsKept};
+ghost use Rattle.xb_trunk.specs.StartLaws.{EachIsSettledOnce, GivenUpWithoutWink, NoKeyWithoutWink};
+ghost use Rattle.std.specs.Prelude.{◌≡◌};
+ghost use Rattle.xb_trunk.specs.declared.start_dial.TheConstants.{AFTER_WINK, LEAST_WINK, LONGEST_WAIT, MOST_WINK};
 
 /// Rows of t ms write 8 t samples.
 #[tactic(auto, using(crate::proofs::Times::time_is_kept))]
@@ -22,4 +25,30 @@ pub fn calls_sound_whole()
 #[tactic(auto, using(crate::proofs::HeardCalls::keys_are_heard))]
 pub fn keys_are_heard()
     ensures { KeysAreHeard }
+{}
+
+/// What is keyed was completed in an earlier row, and has its wink among the rows of the lead so far.
+#[tactic(auto, using(crate::proofs::Promises::no_key_without_wink))]
+pub fn no_key_without_wink()
+    ensures { NoKeyWithoutWink }
+{}
+
+/// What is given up waited long enough, and no row since then ended its wink.
+#[tactic(auto, using(crate::proofs::Promises::given_up_without_wink))]
+pub fn given_up_without_wink()
+    ensures { GivenUpWithoutWink }
+{}
+
+/// Each keying is keyed, given up or waits: in order, and once.
+#[tactic(auto, using(crate::proofs::Settlements::each_is_settled_once))]
+pub fn each_is_settled_once()
+    ensures { EachIsSettledOnce }
+{}
+
+/// A wink lasts 100 to 350 ms, a number is keyed 70 ms after it, and given up after 5,000 ms.
+pub fn constants()
+    ensures least_wink { LEAST_WINK ≡ 100 }
+    ensures most_wink { MOST_WINK ≡ 350 }
+    ensures after_wink { AFTER_WINK ≡ 70 }
+    ensures longest_wait { LONGEST_WAIT ≡ 5000 }
 {}

@@ -2,6 +2,9 @@
 ghost use Rattle.xb_turns.specs.DialLaws.{TellsTheRuns};
 ghost use Rattle.xb_turns.specs.ReportLaws.{TellsTheReport};
 ghost use Rattle.xb_turns.specs.SumLaws.{SumsAllDigits};
+ghost use Rattle.std.specs.Prelude.{◌≡◌};
+ghost use Rattle.xb_turns.specs.declared.verdict.TheConstants.{JUDGED_PULSES};
+ghost use Rattle.xb_turns.specs.declared.figures.TheConstants.{MANY_PULSES};
 
 /// What is told of a dial, piece by piece of a settled record, is what is told of the runs that the pieces make: each is
 /// told once, in the moment in which it is certain.
@@ -19,4 +22,10 @@ pub fn the_report_is_told()
 /// greatest, the longest bounce, and how often each verdict was given.
 pub fn all_digits_are_summed()
     ensures { SumsAllDigits }
+{}
+
+/// From how many pulses on a digit is judged, and has no speed.
+pub fn constants()
+    ensures judged_pulses { JUDGED_PULSES ≡ 5 }
+    ensures many_pulses { MANY_PULSES ≡ 16777216 }
 {}

@@ -42,7 +42,7 @@ class Form:
 
 
 def asked(name, *more):
-    return ["--line", f"{LINE}={name}", *more]
+    return ["--wire", f"{LINE}={name}", *more]
 
 
 def gpiomon(chance, story, _, wire, name="GPIO17", is_lost=False):

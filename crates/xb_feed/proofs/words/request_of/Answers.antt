@@ -1,25 +1,23 @@
 use Rattle.std.proofs.Common.{rules, ap, inl, inr, refl, sym, ◌∙◌}
-use Rattle.std.proofs.lemmas.Result.{err_from_is_err_and}
 use Rattle.std.specs.Prelude.{unwrap_or}
 use Rattle.xb_feed.specs.declared.words.TheConstants.{THRESHOLD_PERCENT}
 use Rattle.xb_feed.specs.Options.{form_asked}
 use Rattle.xb_feed.proofs.words.request_of.Goals as goal
 
-pub returns-in_err-threshold-clause-nothing : goal.returns-in_err-threshold-clause-nothing
-returns-in_err-threshold-clause-nothing g c =
-    let p = err_from_is_err_and c.from_residual-in_err-threshold.result c.from_residual-in_err-threshold.ensures.1 in
+pub returns-in-Err-asked_threshold-clause-nothing : goal.returns-in-Err-asked_threshold-clause-nothing
+returns-in-Err-asked_threshold-clause-nothing g c =
     let given = c.number.result in
-    rw p.1 (λ refused.
-    inr (inl (unwrap_or given THRESHOLD_PERCENT, (given, c.number.ensures, refl), c.in_err-threshold.ensures.refused)))
+    inr (inl (unwrap_or given THRESHOLD_PERCENT, (given, c.number.ensures, refl), c.in-Err-asked_threshold.ensures.refused))
 
 pub returns-clause-says : goal.returns-clause-says
 returns-clause-says g c = record {
-  table = c.text-2.ensures;
+  recording = c.text-2.ensures;
+  table = c.text-3.ensures;
   lossy = c.flag-lossy.ensures;
-  format = ap (form_asked c.flag-lossy.result) (sym c.text.ensures) ∙ c.in_ok-format.ensures.asked;
+  format = ap (form_asked c.flag-lossy.result) (sym c.text.ensures) ∙ c.in-Ok.ensures.asked;
   rate = search rules;
   common_is = refl;
-  threshold = (c.number.result, c.number.ensures, c.in_ok-threshold.ensures.given);
+  threshold = (c.number.result, c.number.ensures, c.in-Ok-asked_threshold.ensures.given);
   notes = c.flag.result;
   notes_are = c.flag.ensures;
   said = search rules;

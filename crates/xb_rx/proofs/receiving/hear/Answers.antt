@@ -10,8 +10,8 @@ use Rattle.xb_rx.specs.Hearing.{Hears, outputs}
 use Rattle.xb_rx.specs.Listeners.{HasListened}
 use Rattle.xb_rx.specs.Reports.{reported}
 use Rattle.xb_rx.specs.Timed.{timing_by}
-use Rattle.xb_wav.specs.Samples.{IsForm}
-use Rattle.xb_wav.specs.Streams.{sound_left}
+use Rattle.xb_rx.specs.Samples.{IsForm}
+use Rattle.xb_rx.specs.Streams.{sound_left}
 use Rattle.xb_rx.proofs.SoFar.{so_far-end, so_far-end-fault, so_far-end-quiet, so_far-fault, so_far-more, so_far-start, so_far-stop}
 use Rattle.xb_rx.proofs.receiving.hear.Goals as goal
 

@@ -1,11 +1,11 @@
 use Rattle.std.proofs.Common.{◌≤◌, ◌+◌}
-use Rattle.xb_wav.specs.declared.wav_start.TheConstants.{UNKNOWN_SAMPLES}
+use Rattle.xb_rx.specs.declared.wav_start.TheConstants.{UNKNOWN_SAMPLES}
 use Rattle.xb_clock.specs.Clocks.{Clock, IsClockSince}
 use Rattle.xb_rx.specs.Hearing.{outputs}
 use Rattle.xb_rx.specs.Timed.{timing_by, untimed}
 use Rattle.xb_rx.specs.Reports.{IsReady, count_of, reported}
-use Rattle.xb_wav.specs.Samples.{IsForm}
-use Rattle.xb_wav.specs.Streams.{sound_left}
+use Rattle.xb_rx.specs.Samples.{IsForm}
+use Rattle.xb_rx.specs.Streams.{sound_left}
 use Rattle.xb_rx.proofs.SoFar.{IsSoFar}
 use Rattle.xb_rx.proofs.receiving.hear.Given as goal
 

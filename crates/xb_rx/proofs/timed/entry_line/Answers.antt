@@ -1,8 +1,8 @@
 use Rattle.std.proofs.Common.{◌≡◌, ◌∙◌, ap, ap₂, subst, sym}
 use Rattle.xb_clock.specs.Clocks.{TellsTime, text_in, time_at}
 use Rattle.xb_clock.proofs.TimesTold.{told-time}
-use Rattle.xb_told.specs.DoubtLines.{began_ms}
-use Rattle.xb_told.specs.Entries.{ended_ms}
+use Rattle.xb_measured.specs.DoubtLines.{began_ms}
+use Rattle.xb_measured.specs.Entries.{ended_ms}
 use Rattle.xb_rx.specs.Timed.{entry_between, object_text}
 use Rattle.xb_rx.proofs.timed.entry_line.Goals as goal
 

@@ -5,8 +5,8 @@ use Rattle.serde_json.specs.Written.{has_float}
 use Rattle.xb_clock.specs.Clocks.{text_in}
 use Rattle.xb_clock.specs.Objects.{with_time}
 use Rattle.xb_clock.proofs.TimeValues.{with_time-no-floats}
-use Rattle.xb_told.specs.Entries.{entry_object}
-use Rattle.xb_told.proofs.EntryValues.{no-floats}
+use Rattle.xb_measured.specs.Entries.{entry_object}
+use Rattle.xb_measured.proofs.EntryValues.{no-floats}
 use Rattle.xb_rx.specs.Timed.{entry_between, object_text}
 use Rattle.xb_rx.proofs.timed.line_of_entry.Goals as goal
 

@@ -1,8 +1,7 @@
 use Rattle.std.proofs.Common.{◌∙◌, Err, ap, sym, subst}
 use Rattle.std.proofs.lemmas.Result.{err_from_is_err_and}
-use Rattle.xb_placed.specs.Cuts.{lines_of_cuts}
-use Rattle.xb_tone.specs.Placing.{DeliversAt, TellsCuts}
-use Rattle.xb_tone.specs.Rules.{program}
+use Rattle.xb_tone.specs.Cuts.{lines_of_cuts}
+use Rattle.xb_tone.specs.Placing.{DeliversAt, TellsCuts, program}
 use Rattle.xb_tone.proofs.Placed.{untold}
 use Rattle.xb_tone.proofs.placing.play_at.Goals as goal
 

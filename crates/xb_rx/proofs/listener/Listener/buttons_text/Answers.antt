@@ -2,8 +2,8 @@ use Rattle.std.proofs.Common.{◌≡◌, ◌∙◌, [], ◌++◌, ◌-◌, ◌^�
 use Rattle.std.proofs.lemmas.Result.{IfOk-weaker}
 use Rattle.xb_measured.specs.declared.heard.Heard.{Heard}
 use Rattle.xb_measured.specs.Receivers.{listed}
-use Rattle.xb_dtmf.specs.Blocks.{digit_blocks}
-use Rattle.xb_dtmf.specs.Lines.{buttons_line}
+use Rattle.xb_measured.specs.ButtonBlocks.{digit_blocks}
+use Rattle.xb_measured.specs.ButtonLines.{buttons_line}
 use Rattle.xb_rx.specs.Listeners.{HasListened, buttons_text, has_kp, has_kp_with}
 use Rattle.xb_rx.proofs.Listened.{kp-before, kp-more}
 use Rattle.xb_rx.proofs.listener.Listener.buttons_text.Goals as goal

@@ -4,7 +4,7 @@ use Rattle.std.proofs.lemmas.Int.{to_z-of_z}
 use Rattle.xb_measured.specs.Receivers.{listed}
 use Rattle.xb_measured.specs.Receivers.{HasReceived}
 use Rattle.xb_measured.specs.Meters.{metered}
-use Rattle.xb_dtmf.specs.Blocks.{HasTaken}
+use Rattle.xb_measured.specs.ButtonBlocks.{HasTaken}
 use Rattle.xb_rx.specs.Listeners.{has_kp, has_kp_with, is_keyed_with}
 use Rattle.xb_rx.proofs.Listened.{keyed-more, kp-before, kp-more}
 use Rattle.xb_rx.proofs.listener.Listener.take.Goals as goal

@@ -5,9 +5,9 @@ use Rattle.xb_model.specs.declared.mark.Mark.{Mark}
 use Rattle.xb_model.specs.Keyings.{keying}
 use Rattle.xb_rx.specs.declared.page.PageFault.{PageFault}
 use Rattle.xb_rx.specs.declared.page.PageFault.TheVariants as page_fault
-use Rattle.xb_told.specs.DoubtLines.{began_ms, doubts_text}
-use Rattle.xb_told.specs.Keyings.{digits_in}
-use Rattle.xb_compared.specs.Entries.{KeyedEntry}
+use Rattle.xb_measured.specs.DoubtLines.{began_ms, doubts_text}
+use Rattle.xb_measured.specs.Keyings.{digits_in}
+use Rattle.xb_rx.specs.Entries.{KeyedEntry}
 use Rattle.xb_rx.specs.Placed.{Placed, placed_of}
 use Rattle.xb_rx.specs.Pages.{IsTextOf, Paged, WritesOf, paged, text_after, text_rest, told_parts}
 use Rattle.xb_rx.proofs.WrittenText.{all-written, entry-begun, entry-told, entry-told-begun, entry-whole, no-doubts, no-entry, none-written, wrote-whole}

@@ -1,7 +1,0 @@
-//! The program that says what is wrong with a deck: what a person finds in it, statuses, and streams that fail.
-//!
-//! Tests alone.
-#![tactic(auto)]
-
-#[cfg(test)]
-mod statuses;

@@ -1,0 +1,235 @@
+// Samples of sixteen wires, and sound that ends before its length, goes on after it, or is quiet.
+use crate::loops::attending::{Case, check_reader};
+use std::alloc::Global;
+use std::test::Fail;
+use test_kit::Halting;
+
+// One channel of eight bits, 200 samples a second, up to the length of its samples.
+const HEAD: &[u8] = b"RIFF\x2a\x00\x00\x00WAVE\
+fmt \x10\x00\x00\x00\x01\x00\x01\x00\xc8\x00\x00\x00\xc8\x00\x00\x00\x01\x00\x08\x00data";
+
+const HEADER: &[u8] = b"line,state,ms\n";
+
+const BREAK: &[u8] = b"line,state,ms\n7,B,10\n";
+
+const ROWS: &[u8] = b"line,state,ms\n7,B,10\n7,M,15\n";
+
+const CLOSED: &[u8] = b"line,state,ms\n7,B,10\n7,M,200\n";
+
+const MORE: &[u8] =
+    b"mfloop: the end of the recording: more follows than the head counts: sox --ignore-length IN.wav OUT.wav\n";
+
+// What follows the head, what is printed, and what is told.
+const ENDS: &[(&[u8], &[u8], &[u8])] = &[
+    // whole: nothing follows an odd number of bytes, or a byte, or a chunk after it
+    (b"\x05\x00\x00\x00\x00\x80\xff\x80\x7b", ROWS, b""),
+    (b"\x05\x00\x00\x00\x00\x80\xff\x80\x7b\x00", ROWS, b""),
+    (
+        b"\x05\x00\x00\x00\x00\x80\xff\x80\x7b\x00LIST\x03\x00\x00\x00abc\x00id3 \x00\x00\x00\x00",
+        ROWS,
+        b"",
+    ),
+    // its samples break off
+    (
+        b"\x07\x00\x00\x00\x00\x80\xff\x80\x7b",
+        BREAK,
+        b"mfloop: the end of the recording: the sound is cut off: 2 bytes are missing\n",
+    ),
+    // none, of a length that is 0, and of one that was not known
+    (
+        b"\x00\x00\x00\x00",
+        HEADER,
+        b"mfloop: the end of the recording: the sound has no samples\n",
+    ),
+    (
+        b"\xff\xff\xff\xff",
+        HEADER,
+        b"mfloop: the end of the recording: the sound has no samples\n",
+    ),
+    // the length was never written, or is that of the first piece
+    (b"\x00\x00\x00\x00\x00\x80\xff\x80\x7b", HEADER, MORE),
+    (
+        b"\x02\x00\x00\x00\x00\x80\xff\x80\x7b\x90\x80\x80\x80\x80\x80\x80",
+        HEADER,
+        MORE,
+    ),
+    // a chunk that is cut off, one whose name is none, bytes after one, and another file
+    (
+        b"\x05\x00\x00\x00\x00\x80\xff\x80\x7b\x00LIST\x03\x00\x00\x00ab",
+        BREAK,
+        MORE,
+    ),
+    (
+        b"\x05\x00\x00\x00\x00\x80\xff\x80\x7b\x00LIS\x00\x00\x00\x00\x00",
+        BREAK,
+        MORE,
+    ),
+    (
+        b"\x05\x00\x00\x00\x00\x80\xff\x80\x7b\x00LIST\x01\x00\x00\x00a\x00\x80\x80",
+        BREAK,
+        MORE,
+    ),
+    (
+        b"\x05\x00\x00\x00\x00\x80\xff\x80\x7b\x00RIFF\x04\x00\x00\x00WAVE",
+        BREAK,
+        MORE,
+    ),
+];
+
+// Two channels of eight bits, 200 samples of each a second, up to the length of its samples.
+const STEREO: &[u8] = b"RIFF\x2c\x00\x00\x00WAVE\
+fmt \x10\x00\x00\x00\x01\x00\x02\x00\xc8\x00\x00\x00\x90\x01\x00\x00\x02\x00\x08\x00data";
+
+// The channel that is asked for, the head, what follows it, what is printed, and the threshold that is advised, if one
+// is. Three times 6 parts of a hundred are 5886; samples of 8 bits are 256 apart.
+const LEVELS: &[(&str, &[u8], &[u8], &[u8], &str)] = &[
+    (
+        "7=1",
+        HEAD,
+        b"\x05\x00\x00\x00\x80\x80\x97\x80\x80",
+        ROWS,
+        "",
+    ),
+    (
+        "7=1",
+        HEAD,
+        b"\x05\x00\x00\x00\x69\x69\x96\x80\x80",
+        ROWS,
+        "",
+    ),
+    (
+        "7=1",
+        HEAD,
+        b"\x05\x00\x00\x00\x80\x80\x96\x80\x80",
+        BREAK,
+        "5",
+    ),
+    (
+        "7=1",
+        HEAD,
+        b"\x05\x00\x00\x00\x80\x80\x83\x80\x80",
+        HEADER,
+        "1",
+    ),
+    // the other channel is loud
+    (
+        "7=2",
+        STEREO,
+        b"\x08\x00\x00\x00\xff\x80\x00\x80\xff\x90\xff\x80",
+        BREAK,
+        "4",
+    ),
+];
+
+// Wire 10 closes with the third sample; half a sample is none.
+const SIXTEEN: &[u8] = b"\xff\xfb\x00\x00\x00\x04\x10\x05\x04\x04\xff";
+
+#[test]
+fn reads_sixteen_wires(rt: HostRuntime) -> Result<(), Fail> {
+    for step in [1, 3, 8_192] {
+        let mut reader = Halting::new(SIXTEEN, step);
+        let case = Case {
+            words: &["--format", "bits16", "--rate", "200", "--wire", "7=10"],
+            recording: SIXTEEN,
+            rows: ROWS,
+            told: b"",
+        };
+        check_reader(&rt, rt.alloc(), &mut reader, &case, 0)?;
+    }
+    Ok(())
+}
+
+// Samples that are open, and then so many pairs of bytes.
+fn pairs(alloc: Global, open: &[u8], pair: &[u8], count: u64) -> Result<Vec<u8>, Fail> {
+    let mut bytes = Vec::new(alloc);
+    bytes.extend_from_slice(open)?;
+    for _ in 0..count {
+        bytes.extend_from_slice(pair)?;
+    }
+    Ok(bytes)
+}
+
+// At 1,000 samples a second wire 0 of sixteen is open for 10 ms and closed for 200; and the same of eight wires, where
+// another one goes to and fro.
+#[test]
+fn refuses_sixteen_wires_as_eight(rt: HostRuntime) -> Result<(), Fail> {
+    let wide = pairs(rt.alloc(), &[0; 20], b"\x01\x00", 200)?;
+    let busy = pairs(
+        rt.alloc(),
+        b"\x00\x02\x00\x02\x00\x02\x00\x02\x00\x02",
+        b"\x01\x03",
+        100,
+    )?;
+    for step in [1, 3, 8_192] {
+        for (form, recording, rows, told) in [
+            ("bits16", wide.as_slice(), CLOSED, b"".as_slice()),
+            ("bits", busy.as_slice(), CLOSED, b"".as_slice()),
+            (
+                "bits",
+                wide.as_slice(),
+                HEADER,
+                b"mfloop: sample 271: the wires go to and fro with each byte: give --format bits16\n".as_slice(),
+            ),
+        ] {
+            let mut reader = Halting::new(recording, step);
+            let case = Case {
+                words: &["--format", form, "--rate", "1000", "--wire", "7=0"],
+                recording,
+                rows,
+                told,
+            };
+            let status = if told.is_empty() { 0 } else { 1 };
+            check_reader(&rt, rt.alloc(), &mut reader, &case, status)?;
+        }
+    }
+    Ok(())
+}
+
+#[test]
+fn judges_the_end_of_a_sound(rt: HostRuntime) -> Result<(), Fail> {
+    for step in [1, 8_192] {
+        for (bytes, rows, told) in ENDS {
+            let mut recording = Vec::new(rt.alloc());
+            recording.extend_from_slice(HEAD)?;
+            recording.extend_from_slice(bytes)?;
+            let mut reader = Halting::new(&recording, step);
+            let case = Case {
+                words: &["--wire", "7=1"],
+                recording: &recording,
+                rows,
+                told,
+            };
+            let status = if told.is_empty() { 0 } else { 1 };
+            check_reader(&rt, rt.alloc(), &mut reader, &case, status)?;
+        }
+    }
+    Ok(())
+}
+
+#[test]
+fn advises_a_threshold_for_quiet_sound(rt: HostRuntime) -> Result<(), Fail> {
+    for (wire, head, bytes, rows, percent) in LEVELS {
+        let mut recording = Vec::new(rt.alloc());
+        recording.extend_from_slice(head)?;
+        recording.extend_from_slice(bytes)?;
+        let mut told = Vec::new(rt.alloc());
+        if !percent.is_empty() {
+            told.extend_from_slice(
+                b"mfloop: the end of the recording: the sound is too quiet for the threshold: ",
+            )?;
+            told.extend_from_slice(b"give --threshold ")?;
+            told.extend_from_slice(percent.as_bytes())?;
+            told.extend_from_slice(b"\n")?;
+        }
+        let mut reader = recording.as_slice();
+        let case = Case {
+            words: &["--wire", *wire],
+            recording: &recording,
+            rows,
+            told: &told,
+        };
+        let status = if percent.is_empty() { 0 } else { 1 };
+        check_reader(&rt, rt.alloc(), &mut reader, &case, status)?;
+    }
+    Ok(())
+}

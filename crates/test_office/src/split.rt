@@ -1,0 +1,13 @@
+//! Large decks in parts: their ranges and decks, the pages of their parts joined, and the programs `mfsplit` and
+//! `mfjoin`.
+//!
+//! Tests alone.
+
+mod cuts;
+mod joins;
+mod pages;
+mod ranges;
+mod splits;
+mod statuses;
+mod wholes;
+mod words;

@@ -1,0 +1,287 @@
+// Words and the file of a deck in; a status, the decks of its parts, their list and lines of faults out.
+use crate::split::splits::TwoDecks;
+use std::alloc::Global;
+use std::io::{self, ErrorKind};
+use std::sync::atomic::{AtomicU64, Ordering};
+use std::test::Fail;
+use test_kit::{called, words_of};
+use xb_parts::LineRange;
+use xb_split::{MakeFault, PROGRAM, Request, SplitFiles, attend};
+
+const DECK: &[u8] =
+    b"[[route]]\ncode = \"0\"\ntrunk = 1\n---\nline,state,ms\n7,M,500\n9999,M,500\n7,B,60\n\
+5000,B,400\n";
+
+const NO_CUT: &[u8] = b"[[route]]\ncode = \"0\"\ntrunk = 1\nline,state,ms\n7,M,500\n";
+
+// A route without its trunk, as `trunk` is written wrong; and the only record is wrong too.
+const NO_TRUNK: &[u8] = b"[[route]]\ncode = \"234\"\ntrunck = 17\n---\nline,state,ms\n7,X,500\n";
+
+const REFUSED_TABLE: &[u8] = b"mfsplit: route table: route 1 has a wrong shape\n";
+
+const WRONG: &[u8] = b"---\nline,state,ms\n7,M,500\n7,X,500\n";
+
+// A record on each of three lines.
+const THREE: &[u8] = b"---\nline,state,ms\n1,M,500\n2,M,500\n3,M,500\n";
+
+const LIST: &str = "0000-9999.deck 0 9999 4\n";
+
+// A deck as it is when it is counted, and as others that it may be when it is read again: with a row more, with a
+// row less, with a row on another line, and with a row that is none.
+const COUNTED: &[u8] = b"---\nline,state,ms\n1,M,500\n2,M,500\n3,M,500\n";
+
+const CHANGED: [&[u8]; 4] = [
+    b"---\nline,state,ms\n1,M,500\n2,M,500\n3,M,500\n3,B,60\n",
+    b"---\nline,state,ms\n1,M,500\n2,M,500\n",
+    b"---\nline,state,ms\n1,M,500\n1,M,500\n3,M,500\n",
+    b"---\nline,state,ms\n1,M,500\n2,X,500\n3,M,500\n",
+];
+
+// A folder, and which of its calls fails.
+#[derive(Drop)]
+struct Folder {
+    has_any: bool,
+    makes: bool,
+    makes_parts: bool,
+    names: bool,
+    opened: AtomicU64,
+    again: &'static [u8],
+    decks: Option<TwoDecks>,
+    list: String,
+    given_up: bool,
+}
+
+impl Folder {
+    fn new(alloc: Global) -> Folder {
+        Folder {
+            has_any: false,
+            makes: true,
+            makes_parts: true,
+            names: true,
+            opened: AtomicU64::new(0),
+            again: COUNTED,
+            decks: None,
+            list: String::new(alloc),
+            given_up: false,
+        }
+    }
+}
+
+fn missing() -> io::Error {
+    io::Error::from(ErrorKind::NotFound)
+}
+
+impl SplitFiles for Folder {
+    type Deck = &'static [u8];
+
+    type Parts = TwoDecks;
+
+    fn open(&self, _alloc: Global, big: &str) -> io::Result<&'static [u8]> {
+        match big {
+            "deck" => Ok(DECK),
+            "no cut" => Ok(NO_CUT),
+            "no trunk" => Ok(NO_TRUNK),
+            "wrong" => Ok(WRONG),
+            "three" => Ok(THREE),
+            "counted" if self.opened.fetch_add(1, Ordering::SeqCst) == 0 => Ok(COUNTED),
+            "counted" => Ok(self.again),
+            _ => Err(missing()),
+        }
+    }
+
+    fn has_any(&self, _alloc: Global, _folder: &str) -> io::Result<bool> {
+        Ok(self.has_any)
+    }
+
+    fn make(
+        &mut self,
+        alloc: Global,
+        _request: &Request<'_>,
+        _ranges: &[LineRange],
+    ) -> Result<TwoDecks, MakeFault> {
+        if !self.makes {
+            return Err(MakeFault::Folder(missing()));
+        }
+        if !self.makes_parts {
+            return Err(MakeFault::Part(missing()));
+        }
+        Ok(TwoDecks::new(alloc))
+    }
+
+    fn name(
+        &mut self,
+        _alloc: Global,
+        _request: &Request<'_>,
+        parts: TwoDecks,
+        list: &str,
+    ) -> io::Result<()> {
+        if !self.names {
+            return Err(missing());
+        }
+        self.decks = Some(parts);
+        self.list.push_str(list)?;
+        Ok(())
+    }
+
+    fn give_up(&mut self, _alloc: Global, _request: &Request<'_>, _parts: TwoDecks) {
+        self.given_up = true;
+    }
+}
+
+// Whether these words have this status in a folder, and this is what stands on standard error.
+fn ends_so(
+    folder: &mut Folder,
+    alloc: Global,
+    words: &[&str],
+    status: u8,
+    line: &[u8],
+) -> Result<bool, Fail> {
+    let words = words_of(alloc, "mfsplit", words)?;
+    let call = called(&PROGRAM, &words);
+    let (mut out, mut err) = (Vec::new(alloc), Vec::new(alloc));
+    let ended = attend(alloc, &call, folder, &mut out, &mut err);
+    Ok(ended == status && out.is_empty() && err.as_slice() == line)
+}
+
+#[test]
+fn parts_and_their_list(rt: HostRuntime) -> Result<(), Fail> {
+    let alloc = rt.alloc();
+    let mut folder = Folder::new(alloc);
+    assert!(rt; ends_so(&mut folder, alloc, &["deck", "parts"], 0, b"")?);
+    assert_eq!(rt; folder.list.as_str(), LIST);
+    match &folder.decks {
+        Some(decks) => assert_eq!(rt; decks.low.as_slice(), DECK),
+        None => assert!(rt; false),
+    }
+    Ok(())
+}
+
+// The words, the status, and what stands on standard error.
+const FAULTS: &[(&[&str], u8, &[u8])] = &[
+    (
+        &["none", "parts"],
+        1,
+        b"mfsplit: the deck could not be opened: none: entity not found\n",
+    ),
+    (
+        &["no\nsuch\x1bdeck", "parts"],
+        1,
+        b"mfsplit: the deck could not be opened: no?such?deck: entity not found\n",
+    ),
+    (
+        &["no cut", "parts"],
+        1,
+        b"mfsplit: the deck has no line ---\n",
+    ),
+    (&["no trunk", "parts"], 1, REFUSED_TABLE),
+    (
+        &["wrong", "parts"],
+        1,
+        b"mfsplit: loop rows: record 2 has a wrong state\n",
+    ),
+    (
+        &["deck", "parts", "--parts", "0"],
+        1,
+        b"mfsplit: a deck has at least one part\n",
+    ),
+    (
+        &["deck", "parts", "--parts", "501"],
+        1,
+        b"mfsplit: there would be 501 parts, and the most is 500\n",
+    ),
+    (
+        &["three", "parts", "--parts", "4"],
+        1,
+        b"mfsplit: a part could not be written: entity not found\n",
+    ),
+    (
+        &[],
+        2,
+        b"mfsplit: the following required arguments were not provided: <DECK> <FOLDER>; mfsplit --help says more\n",
+    ),
+    (
+        &["deck", "--parts", "2"],
+        2,
+        b"mfsplit: the following required arguments were not provided: <FOLDER>; mfsplit --help says more\n",
+    ),
+    (
+        &["deck", "parts", "more"],
+        2,
+        b"mfsplit: there is one word too many, 'more'; mfsplit --help says more\n",
+    ),
+    (
+        &["deck", "parts", "--parts", "few"],
+        2,
+        b"mfsplit: invalid value 'few' for '--parts <N>': a whole number is wanted, from 0; mfsplit --help says more\n",
+    ),
+    (
+        &["deck", "parts", "--part", "2"],
+        2,
+        b"mfsplit: there is no option '--part'; a similar argument exists: '--parts'; mfsplit --help says more\n",
+    ),
+];
+
+#[test]
+fn faults_leave_no_list(rt: HostRuntime) -> Result<(), Fail> {
+    let alloc = rt.alloc();
+    let mut folder = Folder::new(alloc);
+    for (words, status, line) in FAULTS {
+        assert!(rt; ends_so(&mut folder, alloc, words, *status, line)?);
+        assert_eq!(rt; folder.list.as_str(), "");
+    }
+    // the deck of the third part could not be written
+    assert!(rt; folder.given_up);
+    folder.has_any = true;
+    let not_empty = b"mfsplit: the folder is not empty\n";
+    assert!(rt; ends_so(&mut folder, alloc, &["deck", "parts"], 1, not_empty)?);
+    Ok(())
+}
+
+#[test]
+fn the_version_is_written(rt: HostRuntime) -> Result<(), Fail> {
+    let alloc = rt.alloc();
+    let mut folder = Folder::new(alloc);
+    let words = words_of(alloc, "mfsplit", &["deck", "parts", "--version"])?;
+    let call = called(&PROGRAM, &words);
+    let (mut out, mut err) = (Vec::new(alloc), Vec::new(alloc));
+    assert_eq!(rt; attend(alloc, &call, &mut folder, &mut out, &mut err), 0);
+    assert_eq!(rt; out.as_slice(), b"mfsplit 0.5\n".as_slice());
+    assert!(rt; err.is_empty() && folder.decks.is_none());
+    Ok(())
+}
+
+#[test]
+fn folders_that_fail(rt: HostRuntime) -> Result<(), Fail> {
+    let alloc = rt.alloc();
+    let mut folder = Folder::new(alloc);
+    folder.names = false;
+    let no_name = b"mfsplit: the folder could not be used: entity not found\n";
+    assert!(rt; ends_so(&mut folder, alloc, &["deck", "parts"], 1, no_name)?);
+    folder.makes_parts = false;
+    let no_part = b"mfsplit: a part could not be made: entity not found\n";
+    assert!(rt; ends_so(&mut folder, alloc, &["deck", "parts"], 1, no_part)?);
+    folder.makes = false;
+    let none =
+        b"mfsplit: the folder with .incomplete after its name could not be made: entity not found\n";
+    assert!(rt; ends_so(&mut folder, alloc, &["deck", "parts"], 1, none)?);
+    // nothing is made of a deck whose table is refused
+    assert!(rt; ends_so(&mut folder, alloc, &["no trunk", "parts"], 1, REFUSED_TABLE)?);
+    assert_eq!(rt; folder.list.as_str(), "");
+    Ok(())
+}
+
+#[test]
+fn changes_between_the_readings_are_told(rt: HostRuntime) -> Result<(), Fail> {
+    let alloc = rt.alloc();
+    let changed = b"mfsplit: the deck has changed while it was split\n";
+    for again in CHANGED {
+        let mut folder = Folder::new(alloc);
+        folder.again = again;
+        assert!(rt; ends_so(&mut folder, alloc, &["counted", "parts"], 1, changed)?);
+        assert_eq!(rt; folder.list.as_str(), "");
+        assert!(rt; folder.given_up);
+    }
+    let mut folder = Folder::new(alloc);
+    assert!(rt; ends_so(&mut folder, alloc, &["counted", "parts"], 0, b"")?);
+    Ok(())
+}

@@ -1,5 +1,0 @@
-use Rattle.xb_wav.specs.Samples.{IsForm}
-use Rattle.test_rx.proofs.forms.check_sound.Given as goal
-
-abbrev pub invariant-loop-sample : goal.invariant-loop-sample
-invariant-loop-sample l = IsForm l.source.form

@@ -1,0 +1,38 @@
+// The program, called by words, and the files that these name.
+use crate::rx::statuses::FILE;
+use std::alloc::Global;
+use std::io::{Read, Write};
+use test_kit::Folder;
+use xb_command::Call;
+use xb_rx::{PROGRAM, attend};
+
+// Two keyings, of which the tests sound other ones.
+const PAGE: &[u8] = b"0007 1 KEYED 0017 KP:1100+1700 5:900+1300 0:1300+1500 ST:1500+1700\n\
+0007 2 REFUSED UNKNOWN 3\n\
+0007 3 KEYED 0017 KP:1100+1700 2:700+1100 ST:1500+1700\n\
+KEYED 2 REFUSED 1\n";
+
+// The files that there are.
+const FOLDER: Folder = Folder(&[
+    ("empty.wav", FILE),
+    ("page", PAGE),
+    ("none", b"KEYED 0 REFUSED 0\n"),
+    ("damaged", b"KEYED 1 REFUSED 0\n"),
+]);
+
+// Does what the words of a command line ask for, and gives the status.
+pub(crate) fn heard<R: Read, W: Write, E: Write>(
+    alloc: Global,
+    words: &[String],
+    reader: &mut R,
+    out: &mut W,
+    err: &mut E,
+) -> u8 {
+    let call = Call {
+        program: &PROGRAM,
+        words,
+        is_typed: false,
+        is_shown: false,
+    };
+    attend(alloc, &call, &FOLDER, reader, out, err)
+}

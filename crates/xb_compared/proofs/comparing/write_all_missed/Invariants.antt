@@ -1,7 +1,0 @@
-use Rattle.std.proofs.Common.{◌≡◌, ◌++◌, drop, string_bytes}
-use Rattle.xb_compared.specs.Differences.{missed_lines}
-use Rattle.xb_compared.proofs.comparing.write_all_missed.Given as goal
-
-abbrev pub invariant-loop-entry : goal.invariant-loop-entry
-invariant-loop-entry l =
-    string_bytes l.out ++ missed_lines (drop l.entry-index l.keyed) ≡ string_bytes l.fn.out ++ missed_lines l.keyed

@@ -1,5 +1,0 @@
-use Rattle.xb_compared.proofs.Unlike.{same_keys_do_not_differ}
-use Rattle.xb_compared.proofs.laws.same_keys_do_not_differ.Goals as goal
-
-pub returns : goal.returns
-returns c = same_keys_do_not_differ

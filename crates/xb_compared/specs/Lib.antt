@@ -1,4 +1,0 @@
-pub mod Entries
-pub mod Keyed
-pub mod Differences
-pub mod Pages

@@ -1,3 +1,0 @@
-pub mod Blocks
-pub mod Lines
-pub mod Worked

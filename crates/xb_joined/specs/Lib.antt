@@ -1,5 +1,0 @@
-pub mod Timed
-pub mod Tandem
-pub mod Dialled
-pub mod Network
-pub mod Worked

@@ -1,0 +1,447 @@
+-- One line through all that a recording says: the digits that are told of it are those of the pieces of its contact.
+use Rattle.std.proofs.Common.{◌≡◌, ℕ, zero, suc, ◌+◌, ◌-◌, ◌<◌, max, List, [], ◌∷◌, ◌++◌, Bool, true, false, Option, Some, None, map, refl, ap, ap₂, sym, subst, ◌∙◌, ◌==◌, cond, arith, append-nil, append_assoc}
+use Rattle.std.specs.Prelude.{slice_get, option_map}
+use Rattle.std.specs.List.{flat_map}
+use Rattle.std.specs.Option.{option_map_or}
+use Rattle.std.proofs.lemmas.Bool.{eq-eqb, eqb-true, ne_eqb}
+use Rattle.std.proofs.lemmas.Grind.{flat_map-append}
+use Rattle.std.proofs.lemmas.Option.{slice_get-map}
+use Rattle.xb_contact.specs.declared.event.Event.{Event}
+use Rattle.xb_contact.specs.declared.event.Event.TheVariants as events
+use Rattle.xb_contact.specs.declared.hold.Hold.{Hold}
+use Rattle.xb_contact.specs.declared.level.Level.{Level}
+use Rattle.xb_contact.specs.declared.scale.Scale.{Scale}
+use Rattle.xb_contact.specs.Holds.{hold_of, total_of}
+use Rattle.xb_contact.specs.Machine.{at_end, pieces_of}
+use Rattle.xb_contact.specs.Times.{CanCount}
+use Rattle.xb_feed.specs.declared.line.Line.{Line}
+use Rattle.xb_feed.specs.declared.manner.Manner.{Manner}
+use Rattle.xb_feed.specs.declared.tally.Tally.{Tally}
+use Rattle.xb_feed.specs.Tallies.{begun_tally, counted_anew, tally_after}
+use Rattle.xb_feed.specs.Watching.{CanBegin, CanHearAll, CanReach, ContactCanChange, Watch, all_held, begun_contact, certain_told, event_told, heard_event, least_ticks, level_heard, level_seen, line_held, line_left, line_told, told_of_events, watch_after, watched_of, wire_changed}
+use Rattle.xb_loop.specs.WireRecords.{IsAlone, WireRecord, holds_from, record_from}
+use Rattle.xb_turns.specs.declared.dial.Dial.{Dial}
+use Rattle.xb_turns.specs.declared.dial.Said.{Said}
+use Rattle.xb_turns.specs.declared.sums.Sums.{Sums}
+use Rattle.xb_turns.specs.declared.train.Train.{Train}
+use Rattle.xb_turns.specs.declared.train.Wrong.{Wrong}
+use Rattle.xb_turns.specs.Dials.{begun_dial, dial_after, left_by, said_now}
+use Rattle.xb_turns.specs.Digits.{said_list}
+use Rattle.xb_turns.specs.DialLaws.{Piece, told_of_pieces}
+use Rattle.xb_turns.specs.ReportLaws.{judged_said}
+use Rattle.xb_turns.specs.Sums.{sums_after}
+use Rattle.xb_bench.specs.declared.bench.Bench.{Bench}
+use Rattle.xb_bench.specs.declared.setting.Setting.{Setting}
+use Rattle.xb_bench.specs.declared.told.What.TheVariants.{ComesTo, Ends}
+use Rattle.xb_bench.specs.Benches.{Told, bench_past, by_digits, held_until, hold_to, last_of, left_of, said_past, said_until, taken_to, told_by, told_left, told_of, with_level}
+use Rattle.xb_bench.specs.Pieces.{Settled, begun_pieces, now_of, piece_given, pieces_after, ticks_given}
+use Rattle.xb_laws.specs.RowDigits.{digits_by, digits_in, digits_told}
+use Rattle.xb_laws.proofs.SettledSteps.{take-takes}
+use Rattle.xb_laws.proofs.WatchedLines.{changed-here, changed-there, numbers-changed, numbers-held, numbers_of, one-of-all}
+
+abbrev pub Judged : Type 0
+Judged = ℕ × Option Wrong
+
+abbrev Watched : Type 0
+Watched = Line Bench
+
+-- the pieces that holds give, each with the longest bounce before it settled
+abbrev pub piece_list : Tally → Option Hold → List Piece
+piece_list tally None = []
+piece_list tally (Some hold) = record { hold = hold; bounce = tally.bounces.longest } ∷ []
+
+abbrev pub tally_past : Tally → Option Hold → Tally
+tally_past tally None = tally
+tally_past tally (Some hold) = counted_anew tally
+
+abbrev pub pieces_taken : Settled → Tally → List Hold → List Piece
+pieces_taken pieces tally [] = piece_list tally (at_end pieces.phase)
+pieces_taken pieces tally (hold ∷ rest) =
+    piece_list (tally_after tally hold) (piece_given pieces hold)
+    ++ pieces_taken (pieces_after pieces hold)
+    (tally_past (tally_after tally hold) (piece_given pieces hold)) rest
+
+-- the digits that are told of them
+abbrev pub digits_of_pieces : Dial → List Piece → List Judged
+digits_of_pieces dial pieces = flat_map judged_said (told_of_pieces dial pieces)
+
+abbrev judged_now : Option Said → List Judged
+judged_now said = flat_map judged_said (said_list said)
+
+abbrev digits_of : Bench → List Hold → List Judged
+digits_of bench holds = digits_of_pieces bench.dial (pieces_taken bench.pieces bench.tally holds)
+
+-- a contact after a piece that settled, if one did
+abbrev dial_past : Bench → Option Hold → Dial
+dial_past bench None = bench.dial
+dial_past bench (Some hold) = dial_after bench.dial hold bench.tally.bounces.longest
+
+abbrev sums_past : Bench → Option Hold → Sums
+sums_past bench None = bench.sums
+sums_past bench (Some hold) =
+    sums_after bench.setting.windows bench.scale bench.sums (said_now bench.dial hold bench.tally.bounces.longest)
+
+abbrev past_of : Bench → Option Hold → Bench
+past_of bench piece = record bench {
+  dial = dial_past bench piece;
+  tally = tally_past bench.tally piece;
+  sums = sums_past bench piece;
+}
+
+past-is : (bench : Bench) (piece : Option Hold) → bench_past bench piece ≡ past_of bench piece
+past-is bench None = refl
+past-is bench (Some hold) = refl
+
+step :
+    (bench : Bench) (piece : Option Hold) (holds : List Hold)
+    → digits_of_pieces bench.dial
+    (piece_list bench.tally piece ++ pieces_taken bench.pieces (tally_past bench.tally piece) holds)
+    ≡ judged_now (said_past bench piece) ++ digits_of (past_of bench piece) holds
+step bench None holds = refl
+step bench (Some hold) holds =
+    flat_map-append judged_said (said_list (said_now bench.dial hold bench.tally.bounces.longest))
+    (told_of_pieces (dial_past bench (Some hold)) (pieces_taken bench.pieces (counted_anew bench.tally) holds))
+
+at-end :
+    (bench : Bench) (piece : Option Hold)
+    → digits_of_pieces bench.dial (piece_list bench.tally piece) ≡ judged_now (said_past bench piece)
+at-end bench None = refl
+at-end bench (Some hold) =
+    ap (flat_map judged_said) (append-nil (said_list (said_now bench.dial hold bench.tally.bounces.longest)))
+
+-- so much time has gone by
+ticks-are : (piece : Option Hold) → ticks_given piece ≡ total_of (pieces_of piece)
+ticks-are None = refl
+ticks-are (Some hold) = omega arith
+
+time-after : (pieces : Settled) (hold : Hold) → now_of (pieces_after pieces hold) ≡ now_of pieces + hold.ticks
+time-after pieces hold =
+    omega (arith, (take-takes pieces.least pieces.phase hold).1, ticks-are (piece_given pieces hold))
+
+module _ (setting : Setting) (manner : Manner) (wire line : ℕ) where
+  -- what is told of other lines has no digit of this one, nor has anything but what the dial says
+  other-said :
+      (n : ℕ) → (n == line) ≡ false → (own : Setting) (scale : Scale) (said : Option Said)
+      → digits_told line (told_by own n scale said) ≡ []
+  other-said n ne own scale None = refl
+  other-said n ne own scale (Some said) = ap (λ b. cond b (judged_said said) [] ++ []) ne
+
+  own-said :
+      (own : Setting) (scale : Scale) (said : Option Said)
+      → digits_told line (told_by own line scale said) ≡ judged_now said
+  own-said own scale None = refl
+  own-said own scale (Some said) = ap (λ b. cond b (judged_said said) [] ++ []) (eq-eqb line line refl)
+
+  abbrev nothing : List Judged
+  nothing = []
+
+  no-digit : (b : Bool) → cond b nothing nothing ++ nothing ≡ nothing
+  no-digit true = refl
+  no-digit false = refl
+
+  left-said :
+      (n : ℕ) (own : Setting) (scale : Scale) (left : Option (Option (Train × ℕ)))
+      → digits_told line (told_left own n scale left) ≡ []
+  left-said n own scale None = refl
+  left-said n own scale (Some pulses) = no-digit (n == line)
+
+  left-is :
+      (n : ℕ) (bench : Bench)
+      → digits_told line (left_of n bench)
+      ≡ digits_told line (told_by (last_of bench).setting n (last_of bench).scale (said_past bench (at_end bench.pieces.phase)))
+  left-is n bench =
+      let last : Bench = last_of bench in
+      let said : List Told = told_by last.setting n last.scale (said_past bench (at_end bench.pieces.phase)) in
+      let left : List Told = told_left last.setting n last.scale (left_by last.dial) in
+      let sums : List Told = told_of last.setting n last.scale (ComesTo last.sums) in
+      let none : digits_told line (left ++ sums) ≡ [] =
+      flat_map-append (digits_by line) left sums
+      ∙ ap₂ (λ a b. a ++ b) (left-said n last.setting last.scale (left_by last.dial)) (no-digit (n == line)) in
+      flat_map-append (digits_by line) said (left ++ sums)
+      ∙ ap (λ more. digits_told line said ++ more) none
+      ∙ append-nil (digits_told line said)
+
+  -- of all lines this one alone tells its digits
+  abbrev GivesNone : (Watched → List Told) → Type 0
+  GivesNone gives = (watched : Watched) → (watched.number == line) ≡ false → digits_told line (gives watched) ≡ []
+
+  none-given :
+      (gives : Watched → List Told) → GivesNone gives → (lines : List Watched)
+      → ((other : ℕ) → slice_get (numbers_of lines) other ≡ Some line → ⊥) → digits_told line (flat_map gives lines) ≡ []
+  none-given gives others [] none = refl
+  none-given gives others (first ∷ rest) none =
+      let ne : (first.number == line) ≡ false = ne_eqb first.number line (λ e. none 0 (ap (λ n. Some n) e)) in
+      flat_map-append (digits_by line) (gives first) (flat_map gives rest)
+      ∙ ap₂ (λ a b. a ++ b) (others first ne) (none-given gives others rest (λ other e. none (suc other) e))
+
+  one-given :
+      (gives : Watched → List Told) → GivesNone gives → (lines : List Watched) (at : ℕ) (watched : Watched)
+      → slice_get lines at ≡ Some watched → IsAlone at line (numbers_of lines)
+      → digits_told line (flat_map gives lines) ≡ digits_told line (gives watched)
+  one-given gives others [] at watched is alone = cc
+  one-given gives others (first ∷ rest) zero watched is alone =
+      let same : first ≡ watched = cc in
+      let none : (other : ℕ) → slice_get (numbers_of rest) other ≡ Some line → ⊥ =
+      λ other e. let h : suc other ≡ 0 = alone (suc other) e in omega (arith, h) in
+      flat_map-append (digits_by line) (gives first) (flat_map gives rest)
+      ∙ ap (λ more. digits_told line (gives first) ++ more) (none-given gives others rest none)
+      ∙ append-nil (digits_told line (gives first))
+      ∙ ap (λ w. digits_told line (gives w)) same
+  one-given gives others (first ∷ rest) (suc at) watched is alone =
+      let ne : (first.number == line) ≡ false =
+      ne_eqb first.number line (λ e. let h : 0 ≡ suc at = alone 0 (ap (λ n. Some n) e) in omega (arith, h)) in
+      let later : IsAlone at line (numbers_of rest) =
+      λ other e. let h : suc other ≡ suc at = alone (suc other) e in omega (arith, h) in
+      flat_map-append (digits_by line) (gives first) (flat_map gives rest)
+      ∙ ap (λ digits. digits ++ digits_told line (flat_map gives rest)) (others first ne)
+      ∙ one-given gives others rest at watched is later
+
+  others-until : (tick : ℕ) → GivesNone (line_told by_digits tick)
+  others-until tick watched ne = by watched.contact
+    where
+      by :
+          (contact : Option Bench)
+          → digits_told line (line_told by_digits tick (watched_of watched.number watched.manner contact)) ≡ []
+      by None = refl
+      by (Some bench) = other-said watched.number ne bench.setting bench.scale (said_until bench tick)
+
+  others-left : GivesNone (line_left by_digits)
+  others-left watched ne = by watched.contact
+    where
+      by :
+          (contact : Option Bench)
+          → digits_told line (line_left by_digits (watched_of watched.number watched.manner contact)) ≡ []
+      by None = refl
+      by (Some bench) =
+          left-is watched.number bench
+          ∙ other-said watched.number ne (last_of bench).setting (last_of bench).scale
+          (said_past bench (at_end bench.pieces.phase))
+
+  -- what is said is told so
+  abbrev watching : List Watched → Option Scale → ℕ → Watch Bench Setting
+  watching lines scale now = record { lines = lines; common = setting; scale = scale; now = now }
+
+  abbrev Tells : Watch Bench Setting → List Event → List Judged → Type 0
+  Tells watch said digits = digits_told line (told_of_events by_digits watch said) ≡ digits
+
+  tells-then :
+      (watch : Watch Bench Setting) (event : Event) (rest : List Event) (first later : List Judged)
+      → digits_told line (event_told by_digits watch event) ≡ first → Tells (heard_event by_digits watch event) rest later
+      → Tells watch (event ∷ rest) (first ++ later)
+  tells-then watch event rest first later e more =
+      let next = heard_event by_digits watch event in
+      ap (digits_told line) (append_assoc (event_told by_digits watch event) (certain_told by_digits next rest)
+      (flat_map (line_left by_digits) (watch_after by_digits next rest).lines))
+      ∙ flat_map-append (digits_by line) (event_told by_digits watch event) (told_of_events by_digits next rest)
+      ∙ ap₂ (λ a b. a ++ b) e more
+
+  -- a contact is followed
+  abbrev Good : List Watched → Scale → ℕ → Bench → ℕ → List Event → List Hold → Type 0
+  Good lines scale tick bench now said holds =
+      Tells (watching lines (Some scale) tick) said (digits_of bench holds)
+      × CanCount bench.scale (now_of bench.pieces + total_of holds)
+
+  abbrev Follows : List Event → Type 0
+  Follows said =
+      (lines : List Watched) (scale : Scale) (tick : ℕ) (bench : Bench) (now : ℕ)
+      → slice_get lines wire ≡ Some (watched_of line manner (Some bench)) → IsAlone wire line (numbers_of lines)
+      → now ≡ bench.start + now_of bench.pieces → CanCount bench.scale (now_of bench.pieces)
+      → CanHearAll by_digits (watching lines (Some scale) tick) said
+      → Good lines scale tick bench now said (holds_from manner.inverted wire bench.level now said)
+
+  ends :
+      (lines : List Watched) (scale : Scale) (tick : ℕ) (bench : Bench)
+      → slice_get lines wire ≡ Some (watched_of line manner (Some bench)) → IsAlone wire line (numbers_of lines)
+      → Tells (watching lines (Some scale) tick) [] (digits_of bench [])
+  ends lines scale tick bench at alone =
+      let last : Option Hold = at_end bench.pieces.phase in
+      one-given (line_left by_digits) others-left lines wire (watched_of line manner (Some bench)) at alone
+      ∙ left-is line bench
+      ∙ own-said (last_of bench).setting (last_of bench).scale (said_past bench last)
+      ∙ sym (at-end bench last)
+
+  level-step :
+      (rest : List Event) → Follows rest → (lines : List Watched) (scale : Scale) (tick : ℕ) (bench : Bench)
+      (now other : ℕ) (next : Level) (b : Bool) → (other == wire) ≡ b
+      → slice_get lines wire ≡ Some (watched_of line manner (Some bench)) → IsAlone wire line (numbers_of lines)
+      → now ≡ bench.start + now_of bench.pieces → CanCount bench.scale (now_of bench.pieces)
+      → CanHearAll by_digits (watching (wire_changed by_digits setting scale tick next other lines) (Some scale) tick) rest
+      → Good (wire_changed by_digits setting scale tick next other lines) scale tick bench now rest
+      (holds_from manner.inverted wire (cond b (level_seen manner.inverted next) bench.level) now rest)
+  level-step rest later lines scale tick bench now other next true e at alone time count hears =
+      let level : Level = level_seen manner.inverted next in
+      let K : ℕ → Type 0 = λ w. slice_get (wire_changed by_digits setting scale tick next w lines) wire
+      ≡ Some (watched_of line manner (Some (with_level bench level))) in
+      later (wire_changed by_digits setting scale tick next other lines) scale tick (with_level bench level) now
+      (subst K (sym (eqb-true other wire e))
+      (changed-here by_digits setting scale tick next wire lines (watched_of line manner (Some bench)) at))
+      (subst (IsAlone wire line) (sym (numbers-changed by_digits setting scale tick next other lines)) alone) time count hears
+  level-step rest later lines scale tick bench now other next false e at alone time count hears =
+      later (wire_changed by_digits setting scale tick next other lines) scale tick bench now
+      (changed-there by_digits setting scale tick next other wire lines e ∙ at)
+      (subst (IsAlone wire line) (sym (numbers-changed by_digits setting scale tick next other lines)) alone) time count hears
+
+  held-step :
+      (rest : List Event) → Follows rest → (lines : List Watched) (scale : Scale) (tick : ℕ) (bench : Bench)
+      (now until : ℕ) → slice_get lines wire ≡ Some (watched_of line manner (Some bench))
+      → IsAlone wire line (numbers_of lines) → now ≡ bench.start + now_of bench.pieces
+      → CanHearAll by_digits (watching lines (Some scale) tick) (events.At until ∷ rest)
+      → Good lines scale tick bench now (events.At until ∷ rest)
+      (hold_of bench.level (until - now) ∷ holds_from manner.inverted wire bench.level (max now until) rest)
+  held-step rest later lines scale tick bench now until at alone time hears =
+      let hold : Hold = hold_to bench until in
+      let same : hold ≡ hold_of bench.level (until - now) =
+      let n : until - bench.start - now_of bench.pieces ≡ until - now = omega (arith, time) in
+      ap (λ m. hold_of bench.level m) n in
+      let holds : List Hold = holds_from manner.inverted wire bench.level (max now until) rest in
+      let reach = one-of-all (CanReach by_digits until) lines wire (watched_of line manner (Some bench)) at hears.0.0 in
+      let taken : Bench = taken_to bench until in
+      let piece : Option Hold = piece_given bench.pieces hold in
+      let past : Bench = past_of taken piece in
+      let gone : now_of taken.pieces ≡ now_of bench.pieces + hold.ticks = time-after bench.pieces hold in
+      let here : slice_get (all_held by_digits until lines) wire ≡ Some (watched_of line manner (Some past)) =
+      slice_get-map (line_held by_digits until) lines wire
+      ∙ ap (option_map (line_held by_digits until)) at
+      ∙ ap (λ b. Some (watched_of line manner (Some b))) (past-is taken piece) in
+      let count : CanCount bench.scale (now_of taken.pieces) =
+      let n : until - bench.start ≡ now_of taken.pieces = omega (arith, gone, reach.0, reach.1) in
+      subst (CanCount bench.scale) n reach.2 in
+      let good = later (all_held by_digits until lines) scale until past (max now until) here
+      (subst (IsAlone wire line) (sym (numbers-held by_digits until lines)) alone)
+      (omega (arith, time, gone)) count hears.1 in
+      let own : digits_told line (event_told by_digits (watching lines (Some scale) tick) (events.At until))
+      ≡ judged_now (said_past taken piece) =
+      one-given (line_told by_digits until) (others-until until) lines wire (watched_of line manner (Some bench)) at alone
+      ∙ own-said bench.setting bench.scale (said_past taken piece) in
+      let told : Tells (watching lines (Some scale) tick) (events.At until ∷ rest) (digits_of bench (hold ∷ holds)) =
+      tells-then (watching lines (Some scale) tick) (events.At until) rest (judged_now (said_past taken piece))
+      (digits_of past holds) own good.0
+      ∙ sym (step taken piece holds) in
+      let total : now_of taken.pieces + total_of holds ≡ now_of bench.pieces + (hold.ticks + total_of holds) =
+      omega (arith, gone) in (
+        told ∙ ap (λ h. digits_of bench (h ∷ holds)) same,
+        subst (λ h. CanCount bench.scale (now_of bench.pieces + (h.ticks + total_of holds))) same
+            (subst (CanCount bench.scale) total good.1),
+      )
+
+  follows : (said : List Event) → Follows said
+  follows [] lines scale tick bench now at alone time count hears =
+      let none : now_of bench.pieces ≡ now_of bench.pieces + 0 = omega arith in
+      (ends lines scale tick bench at alone, subst (CanCount bench.scale) none count)
+  follows (events.Ticks next ∷ rest) lines scale tick bench now at alone time count hears =
+      follows rest lines next tick bench now at alone time count hears.1
+  follows (events.At until ∷ rest) lines scale tick bench now at alone time count hears =
+      held-step rest (follows rest) lines scale tick bench now until at alone time hears
+  follows (events.Level other next ∷ rest) lines scale tick bench now at alone time count hears =
+      level-step rest (follows rest) lines scale tick bench now other next (other == wire) refl at alone time count hears.1
+
+  -- its wire has no level yet
+  pub record IsTold (watch : Watch Bench Setting) (said : List Event) (has : WireRecord) : Type 0 where
+    pub ms : 0 < has.scale.ms
+    pub ticks : 0 < has.scale.ticks
+    pub counts : CanCount has.scale (total_of has.holds)
+    pub digits : Tells watch said
+        (digits_of_pieces (begun_dial setting.limits has.scale has.first)
+        (pieces_taken (begun_pieces (least_ticks has.scale manner.settle_ms) has.first)
+        (begun_tally (least_ticks has.scale manner.settle_ms) has.first) has.holds))
+
+  abbrev Waits : List Event → Type 0
+  Waits said =
+      (lines : List Watched) (scale : Option Scale) (tick : ℕ) (has : WireRecord)
+      → slice_get lines wire ≡ Some (watched_of line manner None) → IsAlone wire line (numbers_of lines)
+      → record_from manner.inverted wire scale tick said ≡ Some has
+      → CanHearAll by_digits (watching lines scale tick) said → IsTold (watching lines scale tick) said has
+
+  abbrev record_with : Option Scale → ℕ → Level → List Event → Option WireRecord
+  record_with scale tick next rest =
+      option_map_or (λ ticks. Some (record {
+        scale = ticks;
+        first = level_seen manner.inverted next;
+        holds = holds_from manner.inverted wire (level_seen manner.inverted next) tick rest;
+      })) scale (record_from manner.inverted wire scale tick rest)
+
+  begins :
+      (rest : List Event) (lines : List Watched) (scale : Scale) (tick : ℕ) (next : Level)
+      → slice_get lines wire ≡ Some (watched_of line manner None) → IsAlone wire line (numbers_of lines)
+      → CanBegin manner scale
+      → CanHearAll by_digits (watching (wire_changed by_digits setting scale tick next wire lines) (Some scale) tick) rest
+      → IsTold (watching (wire_changed by_digits setting scale tick next wire lines) (Some scale) tick) rest (record {
+        scale = scale;
+        first = level_seen manner.inverted next;
+        holds = holds_from manner.inverted wire (level_seen manner.inverted next) tick rest;
+      })
+  begins rest lines scale tick next at alone can hears =
+      let level : Level = level_seen manner.inverted next in
+      let changed : List Watched = wire_changed by_digits setting scale tick next wire lines in
+      let good = follows rest changed scale tick (begun_contact by_digits manner setting scale tick level) tick
+      (changed-here by_digits setting scale tick next wire lines (watched_of line manner None) at)
+      (subst (IsAlone wire line) (sym (numbers-changed by_digits setting scale tick next wire lines)) alone)
+      (omega arith) can.3 hears in
+      let holds : List Hold = holds_from manner.inverted wire level tick rest in
+      let all : now_of (begun_pieces (least_ticks scale manner.settle_ms) level) + total_of holds ≡ total_of holds =
+      omega arith in
+      record { ms = can.0; ticks = can.1; counts = subst (CanCount scale) all good.1; digits = good.0 }
+
+  begins-step :
+      (rest : List Event) → Waits rest → (lines : List Watched) (scale : Scale) (tick other : ℕ) (next : Level)
+      (has : WireRecord) (b : Bool) → (other == wire) ≡ b → slice_get lines wire ≡ Some (watched_of line manner None)
+      → IsAlone wire line (numbers_of lines)
+      → cond b (record_with (Some scale) tick next rest) (record_from manner.inverted wire (Some scale) tick rest) ≡ Some has
+      → (watched : Watched) → slice_get lines other ≡ Some watched → ContactCanChange watched.manner scale watched.contact
+      → CanHearAll by_digits (watching (wire_changed by_digits setting scale tick next other lines) (Some scale) tick) rest
+      → IsTold (watching (wire_changed by_digits setting scale tick next other lines) (Some scale) tick) rest has
+  begins-step rest later lines scale tick other next has true e at alone is watched got can hears =
+      let here : other ≡ wire = eqb-true other wire e in
+      let same : watched ≡ watched_of line manner None =
+      let both : Some watched ≡ Some (watched_of line manner None) =
+      sym got ∙ ap (slice_get lines) here ∙ at in cc in
+      let begin : CanBegin manner scale = subst (λ (w : Watched). ContactCanChange w.manner scale w.contact) same can in
+      let H : ℕ → Type 0 = λ w. CanHearAll by_digits
+      (watching (wire_changed by_digits setting scale tick next w lines) (Some scale) tick) rest in
+      let K : ℕ → Type 0 = λ w. IsTold (watching (wire_changed by_digits setting scale tick next w lines) (Some scale) tick) rest has in
+      let P : WireRecord → Type 0 = λ r.
+      IsTold (watching (wire_changed by_digits setting scale tick next wire lines) (Some scale) tick) rest r in
+      let record-is : record {
+        scale = scale;
+        first = level_seen manner.inverted next;
+        holds = holds_from manner.inverted wire (level_seen manner.inverted next) tick rest;
+      } ≡ has = cc in
+      subst K (sym here) (subst P record-is (begins rest lines scale tick next at alone begin (subst H here hears)))
+  begins-step rest later lines scale tick other next has false e at alone is watched got can hears =
+      later (wire_changed by_digits setting scale tick next other lines) (Some scale) tick has
+      (changed-there by_digits setting scale tick next other wire lines e ∙ at)
+      (subst (IsAlone wire line) (sym (numbers-changed by_digits setting scale tick next other lines)) alone) is hears
+
+  waits-until :
+      (rest : List Event) → Waits rest → (lines : List Watched) (scale : Option Scale) (tick until : ℕ) (has : WireRecord)
+      → slice_get lines wire ≡ Some (watched_of line manner None) → IsAlone wire line (numbers_of lines)
+      → record_from manner.inverted wire scale until rest ≡ Some has
+      → CanHearAll by_digits (watching lines scale tick) (events.At until ∷ rest)
+      → IsTold (watching lines scale tick) (events.At until ∷ rest) has
+  waits-until rest later lines scale tick until has at alone is hears =
+      let here : slice_get (all_held by_digits until lines) wire ≡ Some (watched_of line manner None) =
+      slice_get-map (line_held by_digits until) lines wire ∙ ap (option_map (line_held by_digits until)) at in
+      let told = later (all_held by_digits until lines) scale until has here
+      (subst (IsAlone wire line) (sym (numbers-held by_digits until lines)) alone) is hears.1 in
+      let none : digits_told line (event_told by_digits (watching lines scale tick) (events.At until)) ≡ [] =
+      one-given (line_told by_digits until) (others-until until) lines wire (watched_of line manner None) at alone in
+      record {
+        ms = told.ms;
+        ticks = told.ticks;
+        counts = told.counts;
+        digits = tells-then (watching lines scale tick) (events.At until) rest [] _ none told.digits;
+      }
+
+  pub waits : (said : List Event) → Waits said
+  waits [] lines scale tick has at alone is hears = cc
+  waits (events.Ticks next ∷ rest) lines scale tick has at alone is hears =
+      let told = waits rest lines (Some next) tick has at alone is hears.1 in
+      record { ms = told.ms; ticks = told.ticks; counts = told.counts; digits = told.digits }
+  waits (events.At until ∷ rest) lines scale tick has at alone is hears =
+      waits-until rest (waits rest) lines scale tick until has at alone is hears
+  waits (events.Level other next ∷ rest) lines None tick has at alone is hears = absurd hears.0
+  waits (events.Level other next ∷ rest) lines (Some scale) tick has at alone is hears =
+      let (watched, got, can) = hears.0 in
+      let told = begins-step rest (waits rest) lines scale tick other next has (other == wire) refl at alone is watched got can
+      hears.1 in
+      record { ms = told.ms; ticks = told.ticks; counts = told.counts; digits = told.digits }

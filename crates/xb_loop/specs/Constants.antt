@@ -1,0 +1,11 @@
+-- The numbers of the names of wires, each as it is.
+use Rattle.std.specs.Prelude.{◌≡◌}
+use Rattle.xb_loop.specs.declared.found_names.TheConstants.{MOST_COLUMNS}
+use Rattle.xb_loop.specs.declared.listing.TheConstants.{MOST_BEGINNING_BYTES}
+use Rattle.xb_loop.specs.declared.names.TheConstants.{MOST_NAMES}
+
+-- a definition that cites a constant means this number
+pub record AreConstants : Type 0 where
+  pub most_names : MOST_NAMES ≡ 32
+  pub most_columns : MOST_COLUMNS ≡ 33
+  pub most_beginning_bytes : MOST_BEGINNING_BYTES ≡ 131072

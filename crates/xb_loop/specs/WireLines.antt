@@ -1,0 +1,42 @@
+-- The wires of a recording, a line each.
+use Rattle.std.specs.Prelude.{ℕ, ◌+◌, List, [], ◌∷◌, ◌++◌, Bool, true, false, Option, Some, None, chars, codes, decimal, encode_utf8, map, option_map, slice_get, string_bytes, if◌then◌else◌}
+use Rattle.std.specs.Char.{is_control}
+use Rattle.std.specs.List.{flat_map}
+use Rattle.xb_loop.specs.declared.listing.Listing.{Listing}
+
+-- a character as it is told in a line: `?` (63) for a control character
+abbrev pub sign_text : ℕ → List ℕ
+sign_text sign = encode_utf8 (if is_control sign then 63 else sign)
+
+-- a name in one line
+abbrev pub in_one_line : List ℕ → List ℕ
+in_one_line name = flat_map sign_text (chars name)
+
+-- how many edges a wire has, after a tab (9), where they were counted
+abbrev pub edges_text : Option ℕ → List ℕ
+edges_text None = []
+edges_text (Some edges) = 9 ∷ decimal edges
+
+-- a wire
+abbrev pub wire_line : List ℕ → Option ℕ → List ℕ
+wire_line name edges = in_one_line name ++ edges_text edges ++ codes "\n"
+
+-- the edges of the wire of this number, where they were counted
+abbrev pub edges_at : Option (List ℕ) → ℕ → Option ℕ
+edges_at None wire = None
+edges_at (Some edges) wire = slice_get edges wire
+
+-- wires, the first of which has this number
+abbrev pub lines_from : Option (List ℕ) → ℕ → List (List ℕ) → List ℕ
+lines_from edges wire [] = []
+lines_from edges wire (name ∷ names) = wire_line name (edges_at edges wire) ++ lines_from edges (wire + 1) names
+
+-- all wires of a listing
+abbrev pub listing_text : Listing → List ℕ
+listing_text listing =
+    lines_from (option_map (λ all. all.items) listing.edges) 0 (map string_bytes listing.wires.names.items)
+
+-- what is told where a recording has more wires
+abbrev pub more_note : Bool → List ℕ
+more_note true = codes "mfloop: the recording has more wires than these 32\n"
+more_note false = []

@@ -1,4 +1,0 @@
-pub mod Rows
-pub mod Settlements
-pub mod Winks
-pub mod Promises

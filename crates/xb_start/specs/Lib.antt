@@ -1,3 +1,0 @@
-pub mod Starts
-pub mod Leads
-pub mod Laws

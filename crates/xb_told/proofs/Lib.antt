@@ -1,2 +1,0 @@
-pub mod DoubtTexts
-pub mod EntryValues

@@ -1,6 +1,0 @@
-use Rattle.std.proofs.Common.{◌≡◌, ◌++◌, drop}
-use Rattle.xb_told.specs.Keyings.{digits_in}
-use Rattle.xb_told.proofs.entries.digits_in.Given as goal
-
-abbrev pub invariant-loop-key : goal.invariant-loop-key
-invariant-loop-key l = l.digits.items ++ digits_in (drop l.key-index l.keys) ≡ digits_in l.keys

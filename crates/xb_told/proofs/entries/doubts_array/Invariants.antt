@@ -1,8 +1,0 @@
-use Rattle.std.proofs.Common.{◌≡◌, ◌++◌, drop, map}
-use Rattle.serde_json.specs.View.{view}
-use Rattle.xb_told.specs.Entries.{doubt_object}
-use Rattle.xb_told.proofs.entries.doubts_array.Given as goal
-
-abbrev pub invariant-loop-doubt : goal.invariant-loop-doubt
-invariant-loop-doubt l =
-    map view l.values.items ++ map doubt_object (drop l.doubt-index l.doubts) ≡ map doubt_object l.doubts

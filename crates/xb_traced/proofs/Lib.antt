@@ -1,2 +1,0 @@
-pub mod TraceRecords
-pub mod TraceTapes

@@ -1,5 +1,0 @@
-pub mod Constants
-pub mod Samples
-pub mod Streams
-pub mod Starts
-pub mod Weights

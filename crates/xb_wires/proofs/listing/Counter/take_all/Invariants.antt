@@ -1,6 +1,0 @@
-use Rattle.xb_wires.specs.Listing.{CountsMore}
-use Rattle.xb_wires.proofs.listing.Counter.take_all.Given as goal
-
-abbrev pub invariant-loop : goal.invariant-loop
-invariant-loop g l =
-    CountsMore l.initial.self l.self (g.R.Read.remaining l.initial.input) (g.R.Read.remaining l.input)

@@ -1,9 +1,0 @@
--- The numbers of the names of wires, each as it is.
-use Rattle.std.specs.Prelude.{◌≡◌}
-use Rattle.xb_wires.specs.declared.found.TheConstants.{MOST_COLUMNS}
-use Rattle.xb_wires.specs.declared.names.TheConstants.{MOST_NAMES}
-
--- a definition that cites a constant means this number
-pub record AreConstants : Type 0 where
-  pub most_names : MOST_NAMES ≡ 32
-  pub most_columns : MOST_COLUMNS ≡ 33
