@@ -3,7 +3,8 @@ use std::alloc::Global;
 use std::io::{Read, Write};
 use std::process::Abort;
 use std::test::Fail;
-use test_kit::{Beside, Folder, called, shown, words_of};
+use test_kit::{Beside, Folder, shown, words_of};
+use xb_command::Call;
 use xb_loop::{PROGRAM, attend};
 
 /// Three route tables: one that is right, one of another release limit, and one that is not TOML.
@@ -35,7 +36,12 @@ pub fn attended<R: Read, W: Write>(
 ) -> Result<(u8, Vec<u8>), Fail> {
     let words = words_of(alloc, "mfloop", words)?;
     let mut told = Vec::new(alloc);
-    let call = called(&PROGRAM, &words);
+    let call = Call {
+        program: &PROGRAM,
+        words: &words,
+        is_typed: false,
+        is_shown: false,
+    };
     let status = attend(alloc, &call, &TABLES, reader, out, &mut told);
     Ok((status, told))
 }

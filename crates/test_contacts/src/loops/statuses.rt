@@ -2,7 +2,7 @@
 use crate::loops::attending::{Case, TABLES, attended, check_reader, check_told};
 use std::io::ErrorKind;
 use std::test::Fail;
-use test_kit::{Halting, Short, called, words_of};
+use test_kit::{Halting, Short, words_of};
 use xb_loop::{PROGRAM, attend};
 
 const WORDS: &[&str] = &["--wire", "7=1"];
@@ -97,7 +97,12 @@ fn fails_where_the_bounces_are_not_told(rt: HostRuntime) -> Result<(), Fail> {
         let mut reader = RECORDING;
         let mut out = Vec::new(rt.alloc());
         let mut err = Short::new(rt.alloc(), room, Some(ErrorKind::Other));
-        let call = called(&PROGRAM, &words);
+        let call = Call {
+            program: &PROGRAM,
+            words: &words,
+            is_typed: false,
+            is_shown: false,
+        };
         let status = attend(rt.alloc(), &call, &TABLES, &mut reader, &mut out, &mut err);
         assert_eq!(rt; status, 1, "{room}");
         assert!(rt; out.as_slice() == ROWS, "{room}");
