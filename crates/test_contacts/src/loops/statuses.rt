@@ -3,6 +3,7 @@ use crate::loops::attending::{Case, TABLES, attended, check_reader, check_told};
 use std::io::ErrorKind;
 use std::test::Fail;
 use test_kit::{Halting, Short, words_of};
+use xb_command::Call;
 use xb_loop::{PROGRAM, attend};
 
 const WORDS: &[&str] = &["--wire", "7=1"];
