@@ -3,8 +3,8 @@
 
 use std::io::{self, IsTerminal};
 use std::process::ExitCode;
-use xb_bench::{PROGRAM, attend};
-use xb_command::{Call, Pipe, SystemFiles, words_of_process};
+use xb_bench::{Asked, PROGRAM};
+use xb_command::{Call, Pipe, SystemFiles, attend, words_of_process};
 
 /// Does what the words ask for, as `attend` says, with the streams of the process.
 fn main(rt: HostRuntime) -> ExitCode {
@@ -20,7 +20,14 @@ fn main(rt: HostRuntime) -> ExitCode {
                 is_shown: rt.stdout().is_terminal(),
             };
             let files = SystemFiles { rt: &rt };
-            let status = attend(rt.alloc(), &call, &files, &mut input, &mut out, &mut err);
+            let status = attend::<Asked<'_>, _, _, _, _>(
+                rt.alloc(),
+                &call,
+                &files,
+                &mut input,
+                &mut out,
+                &mut err,
+            );
             ExitCode::from(pipe.status(status))
         }
         Err(fault) => {

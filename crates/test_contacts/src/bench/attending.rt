@@ -4,8 +4,8 @@ use std::io::{Read, Write};
 use std::process::Abort;
 use std::test::Fail;
 use test_kit::{Beside, Folder, words_of};
-use xb_bench::{PROGRAM, attend};
-use xb_command::Call;
+use xb_bench::{Asked, PROGRAM};
+use xb_command::{Call, attend};
 
 /// The first lines, where a dial of Bell is asked for.
 pub const BELL: &str = "dial: adjust 9.5-10.5, accept 8.0-11.0 pulses a second, 58.0-64.0 % break
@@ -27,7 +27,14 @@ pub fn attended<R: Read, W: Write>(
         is_typed: false,
         is_shown: false,
     };
-    let status = attend(alloc, &call, &Folder(&[]), reader, out, &mut told);
+    let status = attend::<Asked<'_>, _, _, _, _>(
+        alloc,
+        &call,
+        &Folder(&[]),
+        reader,
+        out,
+        &mut told,
+    );
     Ok((status, told))
 }
 

@@ -25,5 +25,5 @@ pub(crate) fn attend<R: Read, W: Write, E: Write>(
         is_typed: false,
         is_shown: false,
     };
-    xb_live::attend(alloc, &call, &FOLDER, deck, out, err)
+    xb_command::attend::<xb_live::Asked<'_>, _, _, _, _>(alloc, &call, &FOLDER, deck, out, err)
 }

@@ -4,8 +4,8 @@ use std::io::{Read, Write};
 use std::process::Abort;
 use std::test::Fail;
 use test_kit::{Beside, Folder, shown, words_of};
-use xb_command::Call;
-use xb_loop::{PROGRAM, attend};
+use xb_command::{Call, attend};
+use xb_loop::{Asked, PROGRAM};
 
 /// Three route tables: one that is right, one of another release limit, and one that is not TOML.
 pub const TABLES: Folder = Folder(&[
@@ -42,7 +42,7 @@ pub fn attended<R: Read, W: Write>(
         is_typed: false,
         is_shown: false,
     };
-    let status = attend(alloc, &call, &TABLES, reader, out, &mut told);
+    let status = attend::<Asked<'_>, _, _, _, _>(alloc, &call, &TABLES, reader, out, &mut told);
     Ok((status, told))
 }
 

@@ -3,8 +3,8 @@ use crate::loops::attending::{Case, TABLES, attended, check_reader, check_told};
 use std::io::ErrorKind;
 use std::test::Fail;
 use test_kit::{Halting, Short, words_of};
-use xb_command::Call;
-use xb_loop::{PROGRAM, attend};
+use xb_command::{Call, attend};
+use xb_loop::{Asked, PROGRAM};
 
 const WORDS: &[&str] = &["--wire", "7=1"];
 
@@ -104,7 +104,14 @@ fn fails_where_the_bounces_are_not_told(rt: HostRuntime) -> Result<(), Fail> {
             is_typed: false,
             is_shown: false,
         };
-        let status = attend(rt.alloc(), &call, &TABLES, &mut reader, &mut out, &mut err);
+        let status = attend::<Asked<'_>, _, _, _, _>(
+            rt.alloc(),
+            &call,
+            &TABLES,
+            &mut reader,
+            &mut out,
+            &mut err,
+        );
         assert_eq!(rt; status, 1, "{room}");
         assert!(rt; out.as_slice() == ROWS, "{room}");
         assert!(rt; err.taken.as_slice() == &told[..room], "{room}");

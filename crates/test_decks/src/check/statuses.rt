@@ -4,7 +4,8 @@ use std::test::Fail;
 use test_kit::{
     Folder, Gives, Halting, Program, Short, called, check_reads, check_status, check_writes,
 };
-use xb_check::{CheckFault, PROGRAM, attend};
+use xb_check::{CheckFault, PROGRAM, Request};
+use xb_command::attend;
 
 // The program `mfcheck`.
 #[derive(Clone, Copy)]
@@ -23,7 +24,14 @@ impl Program for Mfcheck {
         out: &mut Short,
         err: &mut Vec<u8>,
     ) -> u8 {
-        attend(alloc, &called(&PROGRAM, words), &FOLDER, reader, out, err)
+        attend::<Request<'_>, _, _, _, _>(
+            alloc,
+            &called(&PROGRAM, words),
+            &FOLDER,
+            reader,
+            out,
+            err,
+        )
     }
 }
 
@@ -545,12 +553,12 @@ fn names_what_splits_a_large_deck(rt: HostRuntime) -> Result<(), Fail> {
     let too_many = format!(in rt.alloc(); "{}", CheckFault::TooMany)?;
     assert_eq!(rt;
         too_many.as_str(),
-        "loop rows: more than 1000000 records; mfsplit makes parts of the deck"
+        "loop rows: more than 1000000 records; mfoffice split makes parts of the deck"
     );
     let too_long = format!(in rt.alloc(); "{}", CheckFault::TooLong)?;
     assert_eq!(rt;
         too_long.as_str(),
-        "the deck is longer than 16777216 bytes; mfsplit makes parts of it"
+        "the deck is longer than 16777216 bytes; mfoffice split makes parts of it"
     );
     Ok(())
 }

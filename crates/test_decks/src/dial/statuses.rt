@@ -3,8 +3,8 @@ use std::alloc::{AllocError, Global};
 use std::io::ErrorKind;
 use std::test::Fail;
 use test_kit::{Folder, Halting, Short, words_of};
-use xb_command::{Call, Pipe, READER_GONE};
-use xb_dial::{PROGRAM, attend};
+use xb_command::{Call, Pipe, READER_GONE, attend};
+use xb_dial::{Asked, PROGRAM};
 
 // The words after the program's name, the calls, the status, and what stands on standard output and on
 // standard error.
@@ -375,7 +375,14 @@ fn gives_each_status(rt: HostRuntime) -> Result<(), Fail> {
             is_typed: false,
             is_shown: false,
         };
-        let got = attend(rt.alloc(), &call, &FILES, &mut reader, &mut out, &mut err);
+        let got = attend::<Asked<'_>, _, _, _, _>(
+            rt.alloc(),
+            &call,
+            &FILES,
+            &mut reader,
+            &mut out,
+            &mut err,
+        );
         assert_eq!(rt; got, *status, "{words:?}, {}", calls.escape_ascii());
         assert!(rt;
             out.as_slice() == *rows,
@@ -405,7 +412,14 @@ fn fails_where_the_calls_fail(rt: HostRuntime) -> Result<(), Fail> {
             is_typed: false,
             is_shown: false,
         };
-        let got = attend(rt.alloc(), &call, &FILES, &mut reader, &mut out, &mut err);
+        let got = attend::<Asked<'_>, _, _, _, _>(
+            rt.alloc(),
+            &call,
+            &FILES,
+            &mut reader,
+            &mut out,
+            &mut err,
+        );
         assert_eq!(rt; got, 1, "{place}");
         assert!(rt; out.is_empty(), "{place}");
         let line = b"mfdial: the calls could not be read\n".as_slice();
@@ -428,7 +442,14 @@ fn writes_the_beginning_where_the_rows_fail(rt: HostRuntime) -> Result<(), Fail>
             is_typed: false,
             is_shown: false,
         };
-        let got = attend(rt.alloc(), &call, &FILES, &mut calls, &mut out, &mut err);
+        let got = attend::<Asked<'_>, _, _, _, _>(
+            rt.alloc(),
+            &call,
+            &FILES,
+            &mut calls,
+            &mut out,
+            &mut err,
+        );
         assert_eq!(rt; got, 1, "{room}");
         assert!(rt; out.taken.as_slice() == &SEVEN_DIGITS[..room], "{room}");
         let line = b"mfdial: the rows could not be written\n".as_slice();
@@ -444,7 +465,7 @@ fn told_where_rows_fail(alloc: Global, kind: ErrorKind) -> Result<(u8, Vec<u8>),
     let mut err = Vec::new(alloc);
     let pipe = Pipe::default();
     let mut out = pipe.output(Short::new(alloc, 20, Some(kind)));
-    let status = attend(
+    let status = attend::<Asked<'_>, _, _, _, _>(
         alloc,
         &Call {
             program: &PROGRAM,

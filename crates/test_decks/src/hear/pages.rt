@@ -3,7 +3,8 @@ use crate::hear::reports::DECK;
 use std::alloc::Global;
 use std::test::Fail;
 use test_kit::{Folder, called, words_of};
-use xb_hear::{PROGRAM, attend};
+use xb_command::attend;
+use xb_hear::{Asked, PROGRAM};
 
 const HEAD: &str = "<!DOCTYPE html>
 <html lang=\"en\">
@@ -115,7 +116,7 @@ fn written(alloc: Global, words: &[&str], last: &str) -> Result<Vec<u8>, Fail> {
     let mut deck = DECK;
     let mut out = Vec::new(alloc);
     let mut err = Vec::new(alloc);
-    if attend(
+    if attend::<Asked<'_>, _, _, _, _>(
         alloc,
         &called(&PROGRAM, &all),
         &Folder(&[]),

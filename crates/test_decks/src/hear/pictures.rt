@@ -2,7 +2,8 @@
 use crate::hear::reports::DECK;
 use std::test::Fail;
 use test_kit::{Folder, called, words_of};
-use xb_hear::{PROGRAM, attend};
+use xb_command::attend;
+use xb_hear::{Asked, PROGRAM};
 
 // The words after those that ask for a picture, and texts that it has, in their order.
 const PICTURES: &[(&[&str], &[&str])] = &[
@@ -73,7 +74,7 @@ fn pictures_say_what_was_heard(rt: HostRuntime) -> Result<(), Fail> {
         let mut deck = DECK;
         let mut out = Vec::new(rt.alloc());
         let mut err = Vec::new(rt.alloc());
-        let got = attend(
+        let got = attend::<Asked<'_>, _, _, _, _>(
             rt.alloc(),
             &called(&PROGRAM, &all),
             &Folder(&[]),

@@ -1,7 +1,8 @@
 // Reports of a small deck, as a person reckoned them.
 use std::test::Fail;
 use test_kit::{Folder, called, words_of};
-use xb_hear::{PROGRAM, attend};
+use xb_command::attend;
+use xb_hear::{Asked, PROGRAM};
 
 // Line 7 dials 0 with a make at its limit, line 8 a digit with a break over its limit, line 9 nothing, and line 10
 // two such digits and a good one.
@@ -111,7 +112,7 @@ fn reports_as_reckoned(rt: HostRuntime) -> Result<(), Fail> {
         let mut deck = *deck;
         let mut out = Vec::new(rt.alloc());
         let mut err = Vec::new(rt.alloc());
-        let got = attend(
+        let got = attend::<Asked<'_>, _, _, _, _>(
             rt.alloc(),
             &called(&PROGRAM, &all),
             &Folder(&[]),

@@ -6,7 +6,8 @@ use test_kit::{
     Folder, Gives, Halting, Program, Short, called, check_reads, check_status, check_writes,
     words_of,
 };
-use xb_hear::{PROGRAM, attend};
+use xb_command::attend;
+use xb_hear::{Asked, PROGRAM};
 
 // The program `mfhear`.
 #[derive(Clone, Copy)]
@@ -25,7 +26,7 @@ impl Program for Mfhear {
         out: &mut Short,
         err: &mut Vec<u8>,
     ) -> u8 {
-        attend(alloc, &called(&PROGRAM, words), &FOLDER, reader, out, err)
+        attend::<Asked<'_>, _, _, _, _>(alloc, &called(&PROGRAM, words), &FOLDER, reader, out, err)
     }
 }
 
@@ -219,7 +220,7 @@ fn tells_how_it_is_called(rt: HostRuntime) -> Result<(), Fail> {
     let mut out = Vec::new(rt.alloc());
     let mut err = Vec::new(rt.alloc());
     let mut nothing: &[u8] = b"";
-    let status = attend(
+    let status = attend::<Asked<'_>, _, _, _, _>(
         rt.alloc(),
         &called(&PROGRAM, &all),
         &FOLDER,

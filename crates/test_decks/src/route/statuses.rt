@@ -3,7 +3,8 @@ use crate::route::tables::FOLDER;
 use std::alloc::Global;
 use std::test::Fail;
 use test_kit::{Gives, Halting, Program, Short, called, check_status};
-use xb_route::{PROGRAM, attend};
+use xb_command::attend;
+use xb_route::{PROGRAM, Request};
 
 /// The program `mfroute`.
 #[derive(Clone, Copy)]
@@ -22,7 +23,14 @@ impl Program for Mfroute {
         out: &mut Short,
         err: &mut Vec<u8>,
     ) -> u8 {
-        attend(alloc, &called(&PROGRAM, words), &FOLDER, reader, out, err)
+        attend::<Request<'_>, _, _, _, _>(
+            alloc,
+            &called(&PROGRAM, words),
+            &FOLDER,
+            reader,
+            out,
+            err,
+        )
     }
 }
 

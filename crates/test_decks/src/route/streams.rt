@@ -6,7 +6,8 @@ use std::io::ErrorKind;
 use std::process::Abort;
 use std::test::Fail;
 use test_kit::{Halting, Short, called, check_writes, words_of};
-use xb_route::{PROGRAM, attend};
+use xb_command::attend;
+use xb_route::{PROGRAM, Request};
 
 // Reads so many bytes of numbers, and then fails: nothing is written.
 fn check_read(rt: &impl Abort, alloc: Global, words: &[String], numbers: &[u8], place: usize) {
@@ -14,7 +15,14 @@ fn check_read(rt: &impl Abort, alloc: Global, words: &[String], numbers: &[u8], 
     let mut out = Vec::new(alloc);
     let mut err = Vec::new(alloc);
     let call = called(&PROGRAM, words);
-    let got = attend(alloc, &call, &FOLDER, &mut reader, &mut out, &mut err);
+    let got = attend::<Request<'_>, _, _, _, _>(
+        alloc,
+        &call,
+        &FOLDER,
+        &mut reader,
+        &mut out,
+        &mut err,
+    );
     assert_eq!(rt; got, 1, "{place}");
     assert!(rt; out.is_empty(), "{place}");
     let line = b"mfroute: the numbers could not be read\n".as_slice();
@@ -51,7 +59,14 @@ fn check_flush(rt: &impl Abort, alloc: Global, words: &[String]) {
     out.flush = Some(ErrorKind::Other);
     let mut err = Vec::new(alloc);
     let call = called(&PROGRAM, words);
-    let got = attend(alloc, &call, &FOLDER, &mut numbers, &mut out, &mut err);
+    let got = attend::<Request<'_>, _, _, _, _>(
+        alloc,
+        &call,
+        &FOLDER,
+        &mut numbers,
+        &mut out,
+        &mut err,
+    );
     assert_eq!(rt; got, 1);
     assert!(rt; out.taken.as_slice() == LINE);
     assert!(rt; err.as_slice() == NOT_WRITTEN);

@@ -1,9 +1,8 @@
 // Pages that are joined, and pages that are damaged or out of their place, written by hand.
 use std::alloc::Global;
 use std::test::Fail;
-use xb_join::{Damage, Joiner, PartPage, PartsFault, join_pages};
 use xb_model::LINES;
-use xb_parts::LineRange;
+use xb_parts::{Damage, Joiner, LineRange, PartPage, PartsFault, join_pages};
 
 const FIRST: &[u8] = b"0000 1 REFUSED UNKNOWN 3\n\
 0007 1 KEYED 0001 KP:1100+1700 0:1300+1500 ST:1500+1700\n\

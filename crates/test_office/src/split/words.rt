@@ -3,7 +3,7 @@ use std::alloc::{AllocError, Global};
 use std::test::Fail;
 use xb_deck::TableFault;
 use xb_model::LineNo;
-use xb_split::{PlanFault, PlanPartsFault, SplitFault};
+use xb_parts::{PlanFault, PlanPartsFault, SplitFault};
 
 // Whether a fault has these words.
 fn says(alloc: Global, fault: &SplitFault, words: &str) -> Result<bool, AllocError> {

@@ -3,8 +3,8 @@ use crate::rx::statuses::FILE;
 use std::alloc::Global;
 use std::io::{Read, Write};
 use test_kit::Folder;
-use xb_command::Call;
-use xb_rx::{PROGRAM, attend};
+use xb_command::{Call, attend};
+use xb_rx::{Asked, PROGRAM};
 
 // Two keyings, of which the tests sound other ones.
 const PAGE: &[u8] = b"0007 1 KEYED 0017 KP:1100+1700 5:900+1300 0:1300+1500 ST:1500+1700\n\
@@ -34,5 +34,5 @@ pub(crate) fn heard<R: Read, W: Write, E: Write>(
         is_typed: false,
         is_shown: false,
     };
-    attend(alloc, &call, &FOLDER, reader, out, err)
+    attend::<Asked<'_>, _, _, _, _>(alloc, &call, &FOLDER, reader, out, err)
 }

@@ -3,7 +3,8 @@ use crate::tandem::tables::FOLDER;
 use std::alloc::Global;
 use std::test::Fail;
 use test_kit::{Gives, Halting, Program, Short, called, check_status};
-use xb_tandem::{PROGRAM, attend};
+use xb_command::attend;
+use xb_tandem::{Asked, PROGRAM};
 
 /// The program `mftandem`.
 #[derive(Clone, Copy)]
@@ -22,7 +23,7 @@ impl Program for Mftandem {
         out: &mut Short,
         err: &mut Vec<u8>,
     ) -> u8 {
-        attend(alloc, &called(&PROGRAM, words), &FOLDER, reader, out, err)
+        attend::<Asked<'_>, _, _, _, _>(alloc, &called(&PROGRAM, words), &FOLDER, reader, out, err)
     }
 }
 

@@ -6,7 +6,8 @@ use std::io::ErrorKind;
 use std::process::Abort;
 use std::test::Fail;
 use test_kit::{Gives, Halting, called, check_status, check_writes, words_of};
-use xb_tandem::{MOST_LINE_BYTES, PROGRAM, attend};
+use xb_command::attend;
+use xb_tandem::{Asked, MOST_LINE_BYTES, PROGRAM};
 
 const KEYS: &[u8] =
     b"{\"at_ms\":0,\"key\":\"KP\",\"length_ms\":68}\n{\"at_ms\":136,\"key\":\"9\",\"length_ms\":68}\n\
@@ -23,7 +24,14 @@ fn check_read(rt: &impl Abort, alloc: Global, words: &[String], place: usize) {
     let mut out = Vec::new(alloc);
     let mut err = Vec::new(alloc);
     let call = called(&PROGRAM, words);
-    let got = attend(alloc, &call, &FOLDER, &mut reader, &mut out, &mut err);
+    let got = attend::<Asked<'_>, _, _, _, _>(
+        alloc,
+        &call,
+        &FOLDER,
+        &mut reader,
+        &mut out,
+        &mut err,
+    );
     assert_eq!(rt; got, 1, "{place}");
     let wanted = if place < CERTAIN {
         b"".as_slice()
