@@ -2,30 +2,41 @@
 //! these joined to one; a status out.
 #![tactic(auto)]
 
+use std::io::{self, IsTerminal};
 use std::process::ExitCode;
-use xb_command::SystemFiles;
+use xb_command::{Call, Pipe, SystemFiles, words_of_process};
 use xb_parts::{JOIN_PROGRAM, PROGRAM, SPLIT_PROGRAM, attend};
-use xb_process::{serve_by, words_of_process};
 
 /// Does what the words ask for, as `attend` says, with the files and the streams of the process.
 fn main(rt: HostRuntime) -> ExitCode {
-    serve_by(&rt, &PROGRAM, &words_of_process(&rt), |call, out, err| {
-        let (alloc, mut folders, files) = (
-            rt.alloc(),
-            SystemFiles { rt: &rt },
-            SystemFiles { rt: &rt },
-        );
-        let (split, join) = (&SPLIT_PROGRAM, &JOIN_PROGRAM);
-        attend(
-            alloc,
-            call,
-            split,
-            join,
-            &mut folders,
-            &files,
-            &mut rt.stdin(),
-            out,
-            err,
-        )
-    })
+    let (pipe, errors) = (Pipe::default(), rt.stderr());
+    let (mut input, mut out) = (rt.stdin(), pipe.output(io::writer(&rt)));
+    let mut err = pipe.errors(io::writer(&errors));
+    match words_of_process(&rt) {
+        Ok(words) => {
+            let call = Call {
+                program: &PROGRAM,
+                words: &words,
+                is_typed: rt.stdin().is_terminal(),
+                is_shown: rt.stdout().is_terminal(),
+            };
+            let (mut folders, files) = (SystemFiles { rt: &rt }, SystemFiles { rt: &rt });
+            let status = attend(
+                rt.alloc(),
+                &call,
+                &SPLIT_PROGRAM,
+                &JOIN_PROGRAM,
+                &mut folders,
+                &files,
+                &mut input,
+                &mut out,
+                &mut err,
+            );
+            ExitCode::from(pipe.status(status))
+        }
+        Err(fault) => {
+            let _ = eprintln!(rt; "mfoffice: {fault}");
+            ExitCode::FAILURE
+        }
+    }
 }
