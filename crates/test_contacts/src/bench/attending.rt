@@ -1,9 +1,9 @@
 // The program `mfbench`, and what it prints of a recording.
 use std::alloc::Global;
 use std::test::Fail;
-use test_kit::{Folder, Gives, Halting, Program, Short, called, check_status};
+use test_kit::{Folder, Gives, Halting, Program, Short, check_status};
 use xb_bench::{Asked, PROGRAM};
-use xb_command::attend;
+use xb_command::{Call, attend};
 
 /// The program `mfbench`.
 #[derive(Clone, Copy)]
@@ -22,7 +22,12 @@ impl Program for Mfbench {
         out: &mut Short,
         err: &mut Vec<u8>,
     ) -> u8 {
-        let call = called(&PROGRAM, words);
+        let call = Call {
+            program: &PROGRAM,
+            words,
+            is_typed: false,
+            is_shown: false,
+        };
         attend::<Asked<'_>, _, _, _, _>(alloc, &call, &Folder(&[]), reader, out, err)
     }
 }

@@ -3,10 +3,10 @@ use std::alloc::{AllocError, Global};
 use std::io::ErrorKind;
 use std::test::Fail;
 use test_kit::{
-    Fault, Folder, Gives, Halting, Page, Program, Refusal, Short, called, check_faults,
-    check_pages, check_reads, check_refusals, check_streams, words_of,
+    Fault, Folder, Gives, Halting, Page, Program, Refusal, Short, check_faults, check_pages,
+    check_reads, check_refusals, check_streams, words_of,
 };
-use xb_command::{Pipe, READER_GONE, attend};
+use xb_command::{Call, Pipe, READER_GONE, attend};
 use xb_dial::{Asked, PROGRAM};
 
 // The program `mfdial`.
@@ -26,7 +26,13 @@ impl Program for Mfdial {
         out: &mut Short,
         err: &mut Vec<u8>,
     ) -> u8 {
-        attend::<Asked<'_>, _, _, _, _>(alloc, &called(&PROGRAM, words), &FILES, reader, out, err)
+        let call = Call {
+            program: &PROGRAM,
+            words,
+            is_typed: false,
+            is_shown: false,
+        };
+        attend::<Asked<'_>, _, _, _, _>(alloc, &call, &FILES, reader, out, err)
     }
 }
 
@@ -324,7 +330,12 @@ fn told_where_rows_fail(alloc: Global, kind: ErrorKind) -> Result<(u8, Vec<u8>),
     let mut out = pipe.output(Short::new(alloc, 20, Some(kind)));
     let status = attend::<Asked<'_>, _, _, _, _>(
         alloc,
-        &called(&PROGRAM, &words),
+        &Call {
+            program: &PROGRAM,
+            words: &words,
+            is_typed: false,
+            is_shown: false,
+        },
         &FILES,
         &mut calls,
         &mut out,

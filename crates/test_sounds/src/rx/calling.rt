@@ -1,8 +1,8 @@
 // The program, called by words, and the files that these name.
 use crate::rx::statuses::FILE;
 use std::alloc::Global;
-use test_kit::{Folder, Halting, Program, Short, called};
-use xb_command::attend;
+use test_kit::{Folder, Halting, Program, Short};
+use xb_command::{Call, attend};
 use xb_rx::{Asked, PROGRAM};
 
 // Two keyings, of which the tests sound other ones.
@@ -36,6 +36,12 @@ impl Program for Mfrx {
         out: &mut Short,
         err: &mut Vec<u8>,
     ) -> u8 {
-        attend::<Asked<'_>, _, _, _, _>(alloc, &called(&PROGRAM, words), &FOLDER, reader, out, err)
+        let call = Call {
+            program: &PROGRAM,
+            words,
+            is_typed: false,
+            is_shown: false,
+        };
+        attend::<Asked<'_>, _, _, _, _>(alloc, &call, &FOLDER, reader, out, err)
     }
 }
