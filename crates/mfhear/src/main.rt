@@ -5,6 +5,7 @@ use std::io::{self, IsTerminal};
 use std::process::ExitCode;
 use xb_command::{Call, Pipe, SystemFiles, attend, words_of_process};
 use xb_hear::{Asked, PROGRAM};
+use xb_loop::Asked as Rows;
 
 /// Does what the words ask for, as `attend` says, with the streams of the process.
 fn main(rt: HostRuntime) -> ExitCode {
@@ -20,7 +21,7 @@ fn main(rt: HostRuntime) -> ExitCode {
                 is_shown: rt.stdout().is_terminal(),
             };
             let files = SystemFiles { rt: &rt };
-            let status = attend::<Asked<'_>, _, _, _, _>(
+            let status = attend::<Asked<'_, Rows<'_>>, _, _, _, _>(
                 rt.alloc(),
                 &call,
                 &files,

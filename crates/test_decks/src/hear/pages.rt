@@ -5,6 +5,7 @@ use std::test::Fail;
 use test_kit::{Folder, called, words_of};
 use xb_command::attend;
 use xb_hear::{Asked, PROGRAM};
+use xb_loop::Asked as Rows;
 
 const HEAD: &str = "<!DOCTYPE html>
 <html lang=\"en\">
@@ -116,7 +117,7 @@ fn written(alloc: Global, words: &[&str], last: &str) -> Result<Vec<u8>, Fail> {
     let mut deck = DECK;
     let mut out = Vec::new(alloc);
     let mut err = Vec::new(alloc);
-    if attend::<Asked<'_>, _, _, _, _>(
+    if attend::<Asked<'_, Rows<'_>>, _, _, _, _>(
         alloc,
         &called(&PROGRAM, &all),
         &Folder(&[]),

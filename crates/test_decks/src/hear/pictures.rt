@@ -4,6 +4,7 @@ use std::test::Fail;
 use test_kit::{Folder, called, words_of};
 use xb_command::attend;
 use xb_hear::{Asked, PROGRAM};
+use xb_loop::Asked as Rows;
 
 // The words after those that ask for a picture, and texts that it has, in their order.
 const PICTURES: &[(&[&str], &[&str])] = &[
@@ -74,7 +75,7 @@ fn pictures_say_what_was_heard(rt: HostRuntime) -> Result<(), Fail> {
         let mut deck = DECK;
         let mut out = Vec::new(rt.alloc());
         let mut err = Vec::new(rt.alloc());
-        let got = attend::<Asked<'_>, _, _, _, _>(
+        let got = attend::<Asked<'_, Rows<'_>>, _, _, _, _>(
             rt.alloc(),
             &called(&PROGRAM, &all),
             &Folder(&[]),

@@ -8,6 +8,7 @@ use test_kit::{
 };
 use xb_command::attend;
 use xb_hear::{Asked, PROGRAM};
+use xb_loop::Asked as Rows;
 
 // The program `mfhear`.
 #[derive(Clone, Copy)]
@@ -26,7 +27,7 @@ impl Program for Mfhear {
         out: &mut Short,
         err: &mut Vec<u8>,
     ) -> u8 {
-        attend::<Asked<'_>, _, _, _, _>(alloc, &called(&PROGRAM, words), &FOLDER, reader, out, err)
+        attend::<Asked<'_, Rows<'_>>, _, _, _, _>(alloc, &called(&PROGRAM, words), &FOLDER, reader, out, err)
     }
 }
 
@@ -47,8 +48,21 @@ const CASES: &[(&[&str], &[u8], u8, &[u8])] = &[
         &[],
         b"line,state,ms\n",
         1,
-        b"mfhear: the deck has no line ---\n",
+        b"mfhear: the deck has no line ---; where it is a recording, say its wires, as --wire 7=D0\n",
     ),
+    (
+        &["--rate", "8000"],
+        DECK,
+        2,
+        b"mfhear: --rate wants --wire; mfhear --help says more\n",
+    ),
+    (
+        &["--wire", "7"],
+        DECK,
+        2,
+        b"mfhear: invalid value '7' for '--wire': a line, = and a wire are wanted, as 7=D0; mfhear --help says more\n",
+    ),
+    (&["--wire", "7=1", "--line", "8"], b"0,1\n1,1\n", 1, b"mfhear: line 8 has no attempt\n"),
     (
         &[],
         b"[[route]]\ncode = \"0\"\ntrunk = 10000\n---\nx\n",
@@ -214,13 +228,13 @@ fn writes_the_beginning_where_the_report_fails(rt: HostRuntime) -> Result<(), Fa
 #[test]
 fn tells_how_it_is_called(rt: HostRuntime) -> Result<(), Fail> {
     let usage =
-        b"usage: mfhear [DECK] [--line N] [--refused] [--html] [--json] [--svg] [--attempt K]\n\nSays ";
+        b"usage: mfhear [DECK] [--line N] [--refused] [--html] [--json] [--svg] [--attempt K] [--wire N=WIRE]... [--table FILE] [--format FORM] [--rate HZ] [--settle MS] [--threshold PERCENT] [--inverted]\n\nSays ";
     let of_line = b"\n  --svg\n        its picture (SVG) in place of the report; it wants --line\n";
     let all = words_of(rt.alloc(), "mfhear", &["--line", "9", "--help"])?;
     let mut out = Vec::new(rt.alloc());
     let mut err = Vec::new(rt.alloc());
     let mut nothing: &[u8] = b"";
-    let status = attend::<Asked<'_>, _, _, _, _>(
+    let status = attend::<Asked<'_, Rows<'_>>, _, _, _, _>(
         rt.alloc(),
         &called(&PROGRAM, &all),
         &FOLDER,
