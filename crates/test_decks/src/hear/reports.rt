@@ -113,7 +113,10 @@ line 0007, attempt 1 from 0.500 s, record 2: REFUSED MUTILATED 0
   the record ends
 ";
 
-const FILES: Folder = Folder(&[("short.toml", b"[limits]\npulse_max = 50"), ("call.csv", CALL)]);
+const FILES: Folder = Folder(&[
+    ("short.toml", b"[limits]\npulse_max = 50"),
+    ("call.csv", CALL),
+]);
 
 const OBJECT_OF_CALL: &str = "{\"attempt\":1,\
 \"begins\":{\"from_ms\":500,\"ms\":600,\"record\":2,\"text_line\":4},\
@@ -135,7 +138,11 @@ const REPORTS: &[(&[u8], &[&str], &[&str])] = &[
     (DECK, &["--line=8", "--json"], &[EIGHT_OBJECTS]),
     (CALL, &["--wire", "7=1"], &[OF_CALL]),
     (b"", &["--wire=7=1", "call.csv", "--line=7"], &[OF_CALL]),
-    (CALL, &["--wire", "7=1", "--table", "short.toml"], &[BY_A_TABLE]),
+    (
+        CALL,
+        &["--wire", "7=1", "--table", "short.toml"],
+        &[BY_A_TABLE],
+    ),
     (CALL, &["--json", "--wire", "7=1", "-"], &[OBJECT_OF_CALL]),
 ];
 

@@ -27,7 +27,14 @@ impl Program for Mfhear {
         out: &mut Short,
         err: &mut Vec<u8>,
     ) -> u8 {
-        attend::<Asked<'_, Rows<'_>>, _, _, _, _>(alloc, &called(&PROGRAM, words), &FOLDER, reader, out, err)
+        attend::<Asked<'_, Rows<'_>>, _, _, _, _>(
+            alloc,
+            &called(&PROGRAM, words),
+            &FOLDER,
+            reader,
+            out,
+            err,
+        )
     }
 }
 
@@ -62,7 +69,12 @@ const CASES: &[(&[&str], &[u8], u8, &[u8])] = &[
         2,
         b"mfhear: invalid value '7' for '--wire': a line, = and a wire are wanted, as 7=D0; mfhear --help says more\n",
     ),
-    (&["--wire", "7=1", "--line", "8"], b"0,1\n1,1\n", 1, b"mfhear: line 8 has no attempt\n"),
+    (
+        &["--wire", "7=1", "--line", "8"],
+        b"0,1\n1,1\n",
+        1,
+        b"mfhear: line 8 has no attempt\n",
+    ),
     (
         &[],
         b"[[route]]\ncode = \"0\"\ntrunk = 10000\n---\nx\n",
