@@ -100,17 +100,20 @@ impl<'a, P: Work<'a>> Work<'a> for Asked<'a, P> {
         out: &mut W,
         err: &mut E,
     ) -> u8 {
-        let Some(recording) = self.recording else {
-            return answer(alloc, self.request, program, input, out, err);
+        let Asked {
+            request,
+            recording,
+            ..
+        } = self;
+        let Some(Recording { printer, has_table }) = recording else {
+            return answer(alloc, request, program, input, out, err);
         };
         let mut rows = Vec::new(alloc);
-        let status = recording
-            .printer
-            .run(alloc, program, files, input, &mut rows, err);
+        let status = printer.run(alloc, program, files, input, &mut rows, err);
         if status != DONE {
             return status;
         }
-        let mut deck = before_rows(recording.has_table).chain(rows.as_slice());
-        answer(alloc, self.request, program, &mut deck, out, err)
+        let mut deck = before_rows(has_table).chain(rows.as_slice());
+        answer(alloc, request, program, &mut deck, out, err)
     }
 }

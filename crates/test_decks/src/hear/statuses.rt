@@ -50,7 +50,10 @@ const NINE: &[u8] = b"mfhear: line 9 has no attempt\n";
 
 // The words after the program's name, the deck, the status, and what stands on standard error; nothing is
 // written.
-const CASES: &[(&[&str], &[u8], u8, &[u8])] = &[
+type Case = (&'static [&'static str], &'static [u8], u8, &'static [u8]);
+
+// What is wrong with a recording, or its words.
+const OF_RECORDINGS: &[Case] = &[
     (
         &[],
         b"line,state,ms\n",
@@ -75,6 +78,10 @@ const CASES: &[(&[&str], &[u8], u8, &[u8])] = &[
         1,
         b"mfhear: line 8 has no attempt\n",
     ),
+];
+
+// And with a deck.
+const CASES: &[Case] = &[
     (
         &[],
         b"[[route]]\ncode = \"0\"\ntrunk = 10000\n---\nx\n",
@@ -210,17 +217,22 @@ const CASES: &[(&[&str], &[u8], u8, &[u8])] = &[
     (&["-", "--line", "9"], DECK, 1, NINE),
 ];
 
-#[test]
-fn tells_statuses(rt: HostRuntime) -> Result<(), Fail> {
-    for (words, deck, status, line) in CASES {
+fn check_cases(alloc: Global, cases: &[Case]) -> Result<(), Fail> {
+    for (words, deck, status, line) in cases {
         let wanted = Gives {
             status: *status,
             written: b"",
             line,
         };
-        check_status(rt.alloc(), &Mfhear, words, deck, wanted)?;
+        check_status(alloc, &Mfhear, words, deck, wanted)?;
     }
     Ok(())
+}
+
+#[test]
+fn tells_statuses(rt: HostRuntime) -> Result<(), Fail> {
+    check_cases(rt.alloc(), CASES)?;
+    check_cases(rt.alloc(), OF_RECORDINGS)
 }
 
 #[test]
