@@ -7,7 +7,6 @@ use Rattle.xb_command.specs.Files.{Bytes}
 use Rattle.xb_command.specs.Programs.{Streams, streams}
 use Rattle.xb_command.specs.Telling.{Tells}
 use Rattle.xb_command.specs.Works.{AsksBy, AsksNothing, Rules, file_source, text_source}
-use Rattle.xb_command.specs.declared.asking.Misfit.{Misfit}
 use Rattle.xb_command.specs.declared.table.Call.{Call}
 use Rattle.xb_command.specs.declared.table.Program.{Program}
 use Rattle.xb_command.specs.declared.work.Source.{Source}
