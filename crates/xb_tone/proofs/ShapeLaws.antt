@@ -89,8 +89,11 @@ late-some late place hz n m start is =
     ∙ ap (λ (p : ℕ). wave_from p hz m) start
     ∙ ap (λ (k : ℕ). wave_at (k % 8000)) from
 
+abbrev starts : ℕ → ℕ → Starts
+starts low high = record { low = low; high = high }
+
 abbrev starts_by : Bool → ℕ → Starts
-starts_by b state = cond b (record { low = drawn state 1; high = drawn state 2 }) (record { low = 0; high = 0 })
+starts_by b state = cond b (starts (drawn state 1) (drawn state 2)) (starts 0 0)
 
 start-low : (shape : Shape) (state : ℕ) → shape.is_drawn ≡ false → (starts_of shape state).low ≡ 0
 start-low shape state is = ap (λ (b : Bool). (starts_by b state).low) is
