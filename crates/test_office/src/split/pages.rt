@@ -1,6 +1,7 @@
 // Pages that are joined, and pages that are damaged or out of their place, written by hand.
 use std::alloc::Global;
 use std::test::Fail;
+use test_kit::check_texts;
 use xb_model::LINES;
 use xb_parts::{Damage, Joiner, LineRange, PartPage, PartsFault, join_pages};
 
@@ -53,10 +54,13 @@ const JOINED: &[(&[Named], &[u8])] = &[
 ];
 
 #[test]
-fn parts_are_joined(rt: HostRuntime) -> Result<(), Fail> {
+fn parts_are_joined_or_do_not_join(rt: HostRuntime) -> Result<(), Fail> {
     for (parts, whole) in JOINED {
         let page = join(rt.alloc(), parts)?;
         assert_eq!(rt; page.as_slice(), *whole);
+    }
+    for (parts, fault) in APART {
+        assert_eq!(rt; join(rt.alloc(), parts).err(), Some(*fault));
     }
     Ok(())
 }
@@ -80,13 +84,6 @@ const APART: &[(&[Named], PartsFault)] = &[
     (&[(0, 7, FIRST), (7, LINES, NONE)], PartsFault::PastEnd(1)),
 ];
 
-#[test]
-fn parts_that_do_not_join(rt: HostRuntime) {
-    for (parts, fault) in APART {
-        assert_eq!(rt; join(rt.alloc(), parts).err(), Some(*fault));
-    }
-}
-
 // Nothing of a part that has a fault is counted.
 #[test]
 fn joiner_goes_on_after_a_fault(rt: HostRuntime) {
@@ -106,15 +103,6 @@ fn joiner_goes_on_after_a_fault(rt: HostRuntime) {
 }
 
 // A page that is cut after any of its bytes is no page.
-#[test]
-fn cut_pages(rt: HostRuntime) {
-    let alloc = rt.alloc();
-    for length in 0..WHOLE.len() {
-        let cut = join(alloc, &[(0, LINES, &WHOLE[..length])]).err();
-        assert_eq!(rt; cut, Some(PartsFault::Part(1, Damage::NoTotals)));
-    }
-}
-
 // What is wrong with the page of the lines from 8 on.
 const DAMAGED: &[(&[u8], Damage)] = &[
     (b"", Damage::NoTotals),
@@ -171,6 +159,14 @@ const DAMAGED: &[(&[u8], Damage)] = &[
 
 #[test]
 fn names_each_damage(rt: HostRuntime) {
+    for length in 0..WHOLE.len() {
+        let cut = join(rt.alloc(), &[(0, LINES, &WHOLE[..length])]).err();
+        assert_eq!(rt;
+            cut,
+            Some(PartsFault::Part(1, Damage::NoTotals)),
+            "{length}"
+        );
+    }
     for (page, damage) in DAMAGED {
         let parts = [(0, 8, FIRST), (8, LINES, *page)];
         let wanted = PartsFault::Part(2, *damage);
@@ -225,10 +221,6 @@ const WORDS: &[(PartsFault, &str)] = &[
 ];
 
 #[test]
-fn words_of_faults(rt: HostRuntime) {
-    for (fault, words) in WORDS {
-        let alloc = rt.alloc();
-        let written = format!(in alloc; "{fault}").expect(&rt, "memory");
-        assert_eq!(rt; written.as_str(), *words);
-    }
+fn words_of_faults(rt: HostRuntime) -> Result<(), Fail> {
+    check_texts(rt.alloc(), WORDS)
 }

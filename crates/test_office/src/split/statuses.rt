@@ -2,6 +2,7 @@
 use crate::split::splits::TwoDecks;
 use std::alloc::Global;
 use std::io::{self, ErrorKind};
+use std::process::Abort;
 use std::sync::atomic::{AtomicU64, Ordering};
 use std::test::Fail;
 use test_kit::{Folder, words_of};
@@ -175,6 +176,35 @@ fn ends_so(
     Ok(all_end_so(folder, alloc, &all, status, line))
 }
 
+// The version is written in place of parts.
+fn check_version(rt: &impl Abort, alloc: Global) -> Result<(), Fail> {
+    let mut folder = PartsFolder::new(alloc);
+    let words = words_of(alloc, "mfoffice", &["split", "deck", "parts", "--version"])?;
+    let call = Call {
+        program: &PROGRAM,
+        words: &words,
+        is_typed: false,
+        is_shown: false,
+    };
+    let mut input = b"".as_slice();
+    let (mut out, mut err) = (Vec::new(alloc), Vec::new(alloc));
+    let status = attend(
+        alloc,
+        &call,
+        &SPLIT_PROGRAM,
+        &JOIN_PROGRAM,
+        &mut folder,
+        &NO_PAGES,
+        &mut input,
+        &mut out,
+        &mut err,
+    );
+    assert_eq!(rt; status, 0);
+    assert_eq!(rt; out.as_slice(), b"mfoffice split 0.5\n".as_slice());
+    assert!(rt; err.is_empty() && folder.decks.is_none());
+    Ok(())
+}
+
 #[test]
 fn parts_and_their_list(rt: HostRuntime) -> Result<(), Fail> {
     let alloc = rt.alloc();
@@ -185,7 +215,7 @@ fn parts_and_their_list(rt: HostRuntime) -> Result<(), Fail> {
         Some(decks) => assert_eq!(rt; decks.low.as_slice(), DECK),
         None => assert!(rt; false),
     }
-    Ok(())
+    check_version(&rt, alloc)
 }
 
 // The words, the status, and what stands on standard error.
@@ -274,36 +304,6 @@ fn faults_leave_no_list(rt: HostRuntime) -> Result<(), Fail> {
             not_empty
         )?
     );
-    Ok(())
-}
-
-#[test]
-fn the_version_is_written(rt: HostRuntime) -> Result<(), Fail> {
-    let alloc = rt.alloc();
-    let mut folder = PartsFolder::new(alloc);
-    let words = words_of(alloc, "mfoffice", &["split", "deck", "parts", "--version"])?;
-    let call = Call {
-        program: &PROGRAM,
-        words: &words,
-        is_typed: false,
-        is_shown: false,
-    };
-    let mut input = b"".as_slice();
-    let (mut out, mut err) = (Vec::new(alloc), Vec::new(alloc));
-    let status = attend(
-        alloc,
-        &call,
-        &SPLIT_PROGRAM,
-        &JOIN_PROGRAM,
-        &mut folder,
-        &NO_PAGES,
-        &mut input,
-        &mut out,
-        &mut err,
-    );
-    assert_eq!(rt; status, 0);
-    assert_eq!(rt; out.as_slice(), b"mfoffice split 0.5\n".as_slice());
-    assert!(rt; err.is_empty() && folder.decks.is_none());
     Ok(())
 }
 
