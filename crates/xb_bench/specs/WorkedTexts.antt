@@ -1,4 +1,4 @@
--- What is told of a dial, as lines and as objects, as worked by hand.
+-- Lines and objects of a dial, as worked by hand.
 use Rattle.std.specs.Prelude.{ℕ, ◌≡◌, List, ◌++◌, None, Some, codes}
 use Rattle.std.specs.declared.alloc.Global.{Global}
 use Rattle.xb_contact.specs.declared.scale.Scale.{Scale}
@@ -54,7 +54,7 @@ spoiled = record {
   wrong = Some (record { fault = fault.LongBreak; ms = 120 });
 }
 
--- two digits of 9.8 and 10.3 pulses a second, of which one is spoiled and has no share of break; in tenths of a ms
+-- two digits of 9.8 and 10.3 pulses a second; one is spoiled and has no share of break; in tenths of a ms
 abbrev pub two : Sums
 two = record {
   digits = 2;
@@ -69,7 +69,7 @@ two = record {
 abbrev pub setting_with : Global → Form → Setting
 setting_with alloc form = record { alloc = alloc; limits = standard_limits; windows = bell; form = form }
 
--- of line 7, where a ms has so many ticks, this is told as a line, and so as an object
+-- of line 7, with these ticks in a ms, the line and the object of this
 pub record Tells (ticks : ℕ) (what : What) (line object : List ℕ) : Type 0 where
   pub as_line : (alloc : Global) (form : Form) → line_text (setting_with alloc form) 7 (scale_by 1 ticks) what ≡ line
   pub as_object : (alloc : Global) (form : Form)

@@ -15,8 +15,8 @@ pub fn the_digits_are_drawn()
     the_last_turns_are_kept();
 }
 
-/// What is told of a dial: of a good digit, of one that is spoiled, of pulses that no pause ended, at the end of an
-/// attempt, and of what digits come to, each as a line and as an object, as worked by hand.
+/// The line and the object of a good digit, of a spoiled one, of pulses that no pause ended, of the end of a recording, and
+/// of what digits come to, as worked by hand.
 pub fn dials_are_told()
     ensures { DialsAreTold }
 {}

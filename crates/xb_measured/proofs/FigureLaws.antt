@@ -1,4 +1,4 @@
--- The times that are told of a key, beside the samples between which it sounds.
+-- The measured times of a key, beside the samples between which it sounds.
 use Rattle.std.proofs.Common.{◌≡◌, ◌∙◌, ℕ, zero, suc, ◌+◌, ◌*◌, ◌-◌, ◌/◌, ◌<◌, ◌≤◌, ◌^◌, Bool, true, false, Option, Some, ap, arith, nat_le, min, refl, sym}
 use Rattle.std.specs.Option.{unwrap_or}
 use Rattle.std.proofs.lemmas.Bool.{leb-false, leb-true}
@@ -52,7 +52,7 @@ placed from to key sounds =
       not_after = too-late from to key.past (nat_le (20 * key.past + 60) to) refl (omega (arith, some, begun)) sounds.no_later;
     }
 
--- few samples are told in ms, rounded down
+-- few samples in ms, rounded down
 told : (samples : ℕ) → samples < 2 ^ 66 → (8 * ms_of samples ≤ samples) × (samples ≤ 8 * ms_of samples + 7)
 told samples few = (omega (arith, few), omega (arith, few))
 

@@ -1,4 +1,4 @@
--- The times that are told of a key, beside the samples between which it sounds.
+-- The measured times of a key, beside the samples between which it sounds.
 use Rattle.std.specs.Prelude.{ℕ, ◌≡◌, ◌≤◌, ◌<◌, ◌+◌, ◌*◌, ◌-◌, ◌^◌, Some}
 use Rattle.xb_measured.specs.declared.heard.Heard.{Heard}
 use Rattle.xb_measured.specs.Figures.{end_ms, gap_ms, hole_ms, length_ms, start_ms}
@@ -15,8 +15,8 @@ pub record Sounds (from to : ℕ) (key : Heard) : Type 0 where
   pub no_sooner : (window : ℕ) → LiesIn from to window → key.first ≤ window
   pub no_later : (window : ℕ) → LiesIn from to window → window < key.past
 
--- a ms has 8 samples: a key is told to begin 1 ms too soon or 2.5 ms too late at most, to end no later than it does and
--- 3.3 ms too soon at most, and to last no longer than it does and 5.8 ms too short at most
+-- a ms has 8 samples: the beginning is at most 1 ms too soon or 2.5 ms too late, the end at most 3.3 ms too soon and
+-- never too late, and the length at most 5.8 ms too short and never too long
 pub record IsToldInTime (from to : ℕ) (key : Heard) : Type 0 where
   pub begins_late : 8 * start_ms key ≤ from + 20
   pub begins_soon : from ≤ 8 * start_ms key + 7
@@ -25,7 +25,7 @@ pub record IsToldInTime (from to : ℕ) (key : Heard) : Type 0 where
   pub is_long : 8 * length_ms key + from ≤ to
   pub is_short : to ≤ 8 * length_ms key + from + 46
 
--- the silence between two keys is told 1 ms too short or 4.9 ms too long at most
+-- the silence between two keys is at most 1 ms too short or 4.9 ms too long
 pub record IsGapInTime (to from told : ℕ) : Type 0 where
   pub is_short : from ≤ to + 8 * told + 7
   pub is_long : 8 * told + to ≤ from + 39
@@ -35,8 +35,7 @@ pub record TimesAreOfSounds : Type 0 where
   pub gaps : (start to from end told : ℕ) (before key : Heard) → Sounds start to before → Sounds from end key
       → to ≤ from → end < 2 ^ 66 → gap_ms (Some before) key ≡ Some told → IsGapInTime to from told
 
--- a hole is told to be as long as the silence between two keys that are as many windows apart, of which the first of a
--- hole is not counted
+-- a hole is as long as the silence between two keys that are as many windows apart; its first window does not count
 abbrev pub HolesAreGaps : Type 0
 HolesAreGaps = (before key : Heard) → key.first ≡ before.past + (key.blank + 1)
     → gap_ms (Some before) key ≡ Some (hole_ms key)

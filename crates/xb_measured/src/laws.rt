@@ -39,15 +39,15 @@ pub fn keys_are_no_digits()
     ensures { KeysAreNoDigits }
 {}
 
-/// **The times that are told of a key are those of its sound**: of a key that sounds from one sample to another, where just
-/// the windows are its own of which three quarters lie in that. When it began is told 2.5 ms too late at most, and when it
-/// ended 3.3 ms too soon; and a gap is told 4.9 ms too long at most.
+/// **The measured times of a key are those of its sound.** It sounds from one sample to another, and its windows are just
+/// those that lie between these with three quarters of their samples. Its beginning is at most 2.5 ms too late, its end at
+/// most 3.3 ms too soon, and a gap at most 4.9 ms too long.
 #[tactic(auto, using(crate::proofs::FigureLaws::times_are_of_sounds))]
 pub fn times_are_of_sounds()
     ensures { TimesAreOfSounds }
 {}
 
-/// A hole is told to be as long as a gap of as many windows.
+/// A hole is as long as a gap of as many windows.
 #[tactic(auto, using(crate::proofs::FigureLaws::holes_are_gaps))]
 pub fn holes_are_gaps()
     ensures { HolesAreGaps }
