@@ -3,12 +3,12 @@ use Rattle.std.specs.Prelude.{ℕ, ◌≡◌, ◌≤◌, ◌<◌, ◌+◌, ◌*�
 use Rattle.xb_measured.specs.declared.heard.Heard.{Heard}
 use Rattle.xb_measured.specs.Figures.{end_ms, gap_ms, hole_ms, length_ms, start_ms}
 
--- 60 or more of the 80 samples of a window, which begin at 20 times its number, lie between two samples
+-- a window has 80 samples from 20 times its number on: at most 20 stand before a sound, and at most 20 after it
 pub record LiesIn (from to window : ℕ) : Type 0 where
   pub begun : from ≤ 20 * window + 20
   pub going : 20 * window + 60 ≤ to
 
--- a key sounds from one sample up to another: just its windows lie in that, and it has one at least
+-- a key sounds from one sample up to another: its windows are just those that lie in that, and it has one at least
 pub record Sounds (from to : ℕ) (key : Heard) : Type 0 where
   pub some : key.first < key.past
   pub seen : (window : ℕ) → key.first ≤ window → window < key.past → LiesIn from to window

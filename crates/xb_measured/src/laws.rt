@@ -40,8 +40,8 @@ pub fn keys_are_no_digits()
 {}
 
 /// **The measured times of a key are those of its sound.** It sounds from one sample to another, and its windows are just
-/// those that lie between these with three quarters of their samples. Its beginning is at most 2.5 ms too late, its end at
-/// most 3.3 ms too soon, and a gap at most 4.9 ms too long.
+/// those with at most a quarter before it and at most a quarter after it. Its beginning is at most 2.5 ms too late, its end
+/// at most 3.3 ms too soon, and a gap at most 4.9 ms too long.
 #[tactic(auto, using(crate::proofs::FigureLaws::times_are_of_sounds))]
 pub fn times_are_of_sounds()
     ensures { TimesAreOfSounds }
