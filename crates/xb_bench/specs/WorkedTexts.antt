@@ -21,8 +21,8 @@ abbrev pub spread : ℕ → ℕ → Spread
 spread least most = record { least = least; most = most }
 
 -- a 0, in ms: ten breaks of 60 ms, and between them makes of 40 ms
-abbrev pub zero : Train
-zero = record {
+abbrev pub good_zero : Train
+good_zero = record {
   pulses = 10;
   first = 500;
   last = 1400;
@@ -38,8 +38,8 @@ zero = record {
 }
 
 -- a 3 that is spoiled and gets faster, in tenths of a ms: breaks of 120, 60 and 60 ms, and between them makes of 40 ms
-abbrev pub spoiled : Train
-spoiled = record {
+abbrev pub spoiled_three : Train
+spoiled_three = record {
   pulses = 3;
   first = 5000;
   last = 7600;
@@ -76,13 +76,13 @@ pub record Tells (ticks : ℕ) (what : What) (line object : List ℕ) : Type 0 w
       → object_text (setting_with alloc form) 7 (scale_by 1 ticks) what ≡ object
 
 pub record DialsAreTold : Type 0 where
-  pub good : Tells 1 (Says (Digit zero 0))
+  pub good : Tells 1 (Says (Digit good_zero 0))
       (codes "0007      0      10   10.0     60.0         60.0         40.0      0.0        0.0     GOOD\n")
       (codes "{\"bounce_ms_tenths\":0,\"breaks_ms_tenths\":{\"least\":600,\"most\":600},\"digit\":0,"
       ++ codes "\"drift_permille\":0,\"event\":\"DIGIT\",\"fault\":null,\"line\":7,"
       ++ codes "\"makes_ms_tenths\":{\"least\":400,\"most\":400},\"open_permille\":600,\"pulses\":10,"
       ++ codes "\"speed_tenths\":100,\"verdict\":\"GOOD\"}\n")
-  pub spoiled : Tells 10 (Says (Digit spoiled 25))
+  pub spoiled : Tells 10 (Says (Digit spoiled_three 25))
       (codes "0007      x       3    7.7     69.2   60.0-120.0         40.0    -37.5        2.5        -"
       ++ codes "  break 120 ms > 119\n")
       (codes "{\"bounce_ms_tenths\":25,\"breaks_ms_tenths\":{\"least\":600,\"most\":1200},\"digit\":null,"
@@ -90,7 +90,7 @@ pub record DialsAreTold : Type 0 where
       ++ codes "\"fault\":{\"kind\":\"LONG_BREAK\",\"limit\":119,\"ms\":120},\"line\":7,"
       ++ codes "\"makes_ms_tenths\":{\"least\":400,\"most\":400},\"open_permille\":692,\"pulses\":3,"
       ++ codes "\"speed_tenths\":77,\"verdict\":null}\n")
-  pub unfinished : Tells 1 (Says (HungUp (Some (zero, 0))))
+  pub unfinished : Tells 1 (Says (HungUp (Some (good_zero, 0))))
       (codes "0007      -      10   10.0     60.0         60.0         40.0      0.0        0.0     GOOD\n"
       ++ codes "0007  hung up\n")
       (codes "{\"bounce_ms_tenths\":0,\"breaks_ms_tenths\":{\"least\":600,\"most\":600},\"digit\":null,"
