@@ -11,3 +11,4 @@ pub mod Drawn
 pub mod DrawnLaws
 pub mod Options
 pub mod Program
+pub mod WorkedTexts

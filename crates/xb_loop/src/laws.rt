@@ -56,7 +56,8 @@ pub fn the_tape_of_a_recording_is_kept()
     ensures once { AsksForEachOnce }
 {}
 
-/// How many names are kept, and of how many columns the numbers are taken.
+/// How many names are kept, of how many columns the numbers are taken, how many first bytes tell them, and how many
+/// nanoseconds a ms has.
 pub fn constants()
     ensures { AreConstants }
 {}

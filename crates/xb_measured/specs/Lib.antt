@@ -8,9 +8,11 @@ pub mod Stretches
 pub mod Tapes
 pub mod Receivers
 pub mod Figures
+pub mod FigureLaws
 pub mod Seconds
 pub mod Meters
 pub mod Verdicts
+pub mod WorkedVerdicts
 pub mod Objects
 pub mod Lines
 pub mod Worked

@@ -16,7 +16,10 @@
 //! - `Meter`: how loud a sound is in which no key was heard (`quiet_line`).
 //! - `seconds_text`: a time in seconds.
 //! - `laws::tenths_are_nearest`: the tenths of a dB of a level are the nearest to its decibels.
-//!   `levels_are_as_worked`: levels in dBm0, as worked by hand.
+//!   `levels_are_as_worked`: levels in dBm0, as worked by hand. `verdicts_are_as_worked`: so with the figures that System
+//!   R1 takes.
+//! - `laws::times_are_of_sounds`: the measured times of a key are those of its sound, to some ms; `holes_are_gaps`: a hole
+//!   is as long as a gap.
 //!
 //! What is told of the keyings that were heard in a sound: what is doubtful of each, and an object of JSON.
 //!

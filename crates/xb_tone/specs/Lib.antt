@@ -13,4 +13,5 @@ pub mod Placing
 pub mod Sounding
 pub mod Program
 pub mod NoisyKeys
+pub mod ShapeLaws
 pub mod MuLawKeys
