@@ -85,6 +85,11 @@ impl ToldField {
 }
 
 impl fmt::Display for ToldField {
+    ghost use Rattle.std.specs.Prelude.{Some};
+    ghost use Rattle.xb_calls.specs.FaultTexts.{told_text};
+
+    ghost output = { λ field. Some (told_text field) };
+
     fn fmt<W: fmt::Write>(&self, f: &mut fmt::Formatter<W>) -> fmt::Result {
         for byte in self.bytes() {
             f.write_char(char::from(*byte))?;

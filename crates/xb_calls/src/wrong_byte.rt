@@ -12,6 +12,11 @@ pub struct WrongByte {
 }
 
 impl fmt::Display for WrongByte {
+    ghost use Rattle.std.specs.Prelude.{Some};
+    ghost use Rattle.xb_calls.specs.FaultTexts.{wrong_byte_text};
+
+    ghost output = { λ wrong. Some (wrong_byte_text wrong) };
+
     fn fmt<W: fmt::Write>(&self, f: &mut fmt::Formatter<W>) -> fmt::Result {
         let WrongByte { place, byte } = *self;
         if 32 <= byte && byte < 127 {

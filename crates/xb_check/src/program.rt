@@ -4,12 +4,11 @@ ghost use Rattle.xb_check.specs.Program.{by_check};
 
 use crate::checking::check;
 use crate::fault::CheckFault;
-use crate::file_name::in_one_line;
 use crate::words::{Request, misfit_of, request_of};
 use std::alloc::Global;
 use std::io::{Read, Write};
 use xb_command::{
-    Answer, Call, DONE, Files, Program, Source, Words, Work, tell_fault, text_source,
+    Answer, Call, DONE, Files, InOneLine, Program, Source, Words, Work, tell_fault, text_source,
 };
 
 // Checks the deck that is asked for, under the name that is told of it.
@@ -21,7 +20,7 @@ fn check_named<R: Read, W: Write>(
 ) -> Result<(), CheckFault>
     ensures { Reports request.entry (R.remaining deck.old) result (W.contents out.old) (W.contents out.new) }
 {
-    match in_one_line(alloc, request.name) {
+    match format!(in alloc; "{}", InOneLine(request.name)) {
         Ok(name) => check(alloc, &name, request.all, deck, out),
         Err(_) => Err(CheckFault::NoMemory),
     }

@@ -1,5 +1,5 @@
 -- What the program does.
-use Rattle.std.specs.Prelude.{None, Err, Ok}
+use Rattle.std.specs.Prelude.{Some, Err, Ok}
 use Rattle.std.specs.Io.KnownBytes.{Keeps}
 use Rattle.xb_command.specs.Programs.{Streams}
 use Rattle.xb_command.specs.Telling.{Tells}
@@ -9,6 +9,7 @@ use Rattle.xb_hear.specs.declared.fault.HearFault.{HearFault}
 use Rattle.xb_hear.specs.declared.request.Asked.{Asked}
 use Rattle.xb_hear.specs.DeckReport.{Delivers}
 use Rattle.xb_hear.specs.Options.{Say, asked_by}
+use Rattle.xb_hear.specs.FaultTexts.{hear_text}
 
 -- exactly the report that is asked for was written
 pub record WritesReport (asked : Asked) (old new : Streams) : Type 0 where
@@ -19,7 +20,7 @@ pub record WritesReport (asked : Asked) (old new : Streams) : Type 0 where
 pub record HasFault (asked : Asked) (program : Program) (old new : Streams) : Type 0 where
   pub fault : HearFault
   pub report : Delivers asked.request old.input (Err fault) old.output new.output
-  pub line : Tells program.name.now None old.errors new.errors
+  pub line : Tells program.name.now (Some (hear_text fault)) old.errors new.errors
 
 -- what the words ask for, what is read, and what is done
 abbrev pub by_hear : Rules Asked
