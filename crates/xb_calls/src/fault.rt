@@ -4,7 +4,6 @@ use crate::told_field::ToldField;
 use crate::wrong_byte::WrongByte;
 use std::fmt;
 use thiserror::Error;
-use xb_model::RowFault;
 
 /// Why a text gives no calls: the first fault, with its text line, counted from 1.
 #[derive(Debug, Drop, Error)]

@@ -8,7 +8,6 @@ use std::alloc::{AllocError, Global};
 use std::fmt;
 use std::io::Read;
 use thiserror::Error;
-use xb_model::RowFault;
 
 // The most bytes of a line that is the cut.
 const CUT_BYTES: usize = 4;

@@ -6,7 +6,6 @@ use std::alloc::AllocError;
 use std::fmt;
 use thiserror::Error;
 use xb_calls::{CallFault, SpeedFault};
-use xb_model::RowFault;
 use xb_text::{ReadFault, WriteFault};
 use xb_worn::WornFault;
 

@@ -4,7 +4,6 @@ ghost use Rattle.std.specs.Prelude.{◌≡◌};
 use std::alloc::AllocError;
 use std::fmt;
 use thiserror::Error;
-use xb_model::RowFault;
 
 /// Why a text is no page: the first fault, with its text line, counted from 1.
 #[derive(Clone, Copy, Debug, PartialEq, Eq, Error)]

@@ -4,7 +4,6 @@ use crate::parts_fault::PartsFault;
 use std::{fmt, io};
 use thiserror::Error;
 use xb_command::InOneLine;
-use xb_model::RowFault;
 
 /// Why no page is written; the file is named where there is one, in one line. The list comes first, then the files of
 /// the pages, how many these are, and what they have: a fault is told only where those before it have none. Memory may

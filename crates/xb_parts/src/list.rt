@@ -7,7 +7,7 @@ use crate::range::LineRange;
 use std::alloc::{AllocError, AllocFailed, Global};
 use std::fmt;
 use thiserror::Error;
-use xb_model::{RowFault, line_of};
+use xb_model::line_of;
 use xb_text::first_piece;
 
 /// Why a text gives no ranges.

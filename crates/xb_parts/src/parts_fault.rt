@@ -6,7 +6,6 @@ use crate::damage::Damage;
 use std::alloc::AllocError;
 use std::fmt;
 use thiserror::Error;
-use xb_model::RowFault;
 use xb_page::PageFault;
 
 /// Why pages can't be joined. Parts count from 1.

@@ -14,7 +14,7 @@ use std::alloc::{AllocError, AllocFailed, Global};
 use std::fmt;
 use thiserror::Error;
 use xb_deck::MOST_DECK_BYTES;
-use xb_model::{LINES, LineNo, PerLine, RowFault};
+use xb_model::{LINES, LineNo, PerLine};
 use xb_rows::MOST_RECORDS;
 
 /// Why there is no plan.

@@ -5,7 +5,6 @@ use std::fmt;
 use thiserror::Error;
 use xb_calls::WrongByte;
 use xb_command::OpenFault;
-use xb_model::RowFault;
 use xb_outgoing::{OutgoingFault, TableFault};
 
 /// Why a text is no number.

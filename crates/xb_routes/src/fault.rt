@@ -4,7 +4,6 @@ ghost use Rattle.xb_routes.specs.LimitFaults.{limit_fault, limit_number};
 
 use std::fmt;
 use thiserror::Error;
-use xb_model::RowFault;
 
 /// The rule that limits break, the first in this order.
 #[derive(Clone, Copy, Debug, PartialEq, Eq)]

@@ -6,7 +6,6 @@ use std::alloc::AllocError;
 use std::fmt;
 use thiserror::Error;
 use xb_command::OpenFault;
-use xb_model::RowFault;
 use xb_outgoing::{OutgoingFault, TableFault};
 use xb_text::WriteFault;
 

@@ -3,7 +3,6 @@
 use std::alloc::AllocError;
 use std::fmt;
 use thiserror::Error;
-use xb_model::RowFault;
 
 /// Why worn calls have no rows.
 #[derive(Clone, Copy, Debug, PartialEq, Eq, Error)]
