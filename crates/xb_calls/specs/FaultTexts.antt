@@ -33,7 +33,8 @@ speed_text speed.HangUp = codes "the hang-up is no release, or longer than a day
 -- of the text of calls
 abbrev pub call_text : CallFault → List ℕ
 call_text (call.Line number field) =
-    codes "text line " ++ decimal number ++ codes ": \"" ++ told_text field ++ codes "\" is no line of 0 to 9999"
+    codes "text line " ++ decimal number ++ codes ": \"" ++ told_text field
+    ++ codes "\" is no line of 0 to 9999"
 call_text (call.Digit number byte) =
     codes "text line " ++ decimal number ++ codes " has a wrong digit " ++ wrong_byte_text byte
 call_text (call.NoDigits number) = codes "text line " ++ decimal number ++ codes " has no digits"

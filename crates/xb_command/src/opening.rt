@@ -1,7 +1,7 @@
 // A file that is opened by its name, and why it is not.
 ghost use Rattle.std.specs.Prelude.{◌≡◌, None, Some, IfErr, IfOk, IfSome, take};
 ghost use Rattle.std.specs.Fmt.{WritesOnOk};
-ghost use Rattle.xb_command.specs.FaultTexts.{sign_text};
+ghost use Rattle.xb_command.specs.FaultTexts.{one_line, sign_text};
 ghost use Rattle.xb_command.specs.Files.{IsNoText, IsUnreadable, OpensText, ReadsBytes, is_utf16, is_wav, no_text};
 
 use crate::system::Files;
@@ -66,16 +66,21 @@ fn write_sign<W: fmt::Write>(f: &mut fmt::Formatter<W>, sign: char) -> fmt::Resu
     f.write_char(if sign.is_control() { '?' } else { sign })
 }
 
-impl<'a> fmt::Display for InOneLine<'a> {
-    ghost use Rattle.xb_command.specs.FaultTexts.{one_line};
+// Writes a name in one line.
+fn write_one_line<W: fmt::Write>(f: &mut fmt::Formatter<W>, name: &str) -> fmt::Result
+    ensures { WritesOnOk W.write_str_gives f.old result (one_line name.now) f.new }
+{
+    for sign in name.chars() {
+        write_sign(f, sign)?;
+    }
+    Ok(())
+}
 
+impl<'a> fmt::Display for InOneLine<'a> {
     ghost output = { λ name. Some (one_line name.0.now) };
 
     fn fmt<W: fmt::Write>(&self, f: &mut fmt::Formatter<W>) -> fmt::Result {
-        for sign in self.0.chars() {
-            write_sign(f, sign)?;
-        }
-        Ok(())
+        write_one_line(f, self.0)
     }
 }
 

@@ -7,7 +7,8 @@ use Rattle.xb_feed.specs.declared.fault.RecordingFault.TheVariants as recording
 -- of a recording
 abbrev pub recording_text : RecordingFault → List ℕ
 recording_text (recording.Line number refusal text) =
-    codes "text line " ++ decimal number ++ codes ": " ++ refusal_text refusal ++ codes ": " ++ string_bytes text
+    codes "text line " ++ decimal number ++ codes ": " ++ refusal_text refusal ++ codes ": "
+    ++ string_bytes text
 recording_text (recording.Sample number refusal) =
     codes "sample " ++ decimal number ++ codes ": " ++ refusal_text refusal
 recording_text (recording.Beginning refusal) = codes "the recording: " ++ refusal_text refusal

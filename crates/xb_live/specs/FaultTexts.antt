@@ -17,7 +17,8 @@ use Rattle.xb_live.specs.declared.fault.NoteFault.TheVariants as note
 abbrev pub entries_text : EntriesFault → List ℕ
 entries_text entries.NoMemory = codes "out of memory"
 entries_text (entries.Late line entry) =
-    codes "line " ++ decimal line ++ codes ", entry " ++ decimal entry ++ codes ": a time is past " ++ LAST_TIME.now
+    codes "line " ++ decimal line ++ codes ", entry " ++ decimal entry ++ codes ": a time is past "
+    ++ LAST_TIME.now
 entries_text (entries.LateEvent line) =
     codes "line " ++ decimal line ++ codes ", an event: its time is past " ++ LAST_TIME.now
 entries_text entries.Write = codes "the entries could not be written"

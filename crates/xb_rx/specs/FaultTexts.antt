@@ -16,7 +16,8 @@ use Rattle.xb_rx.specs.declared.comparing.CompareProgramFault.TheVariants as dif
 abbrev pub wav_text : WavFault → List ℕ
 wav_text (wav.Head fault) = head_text fault
 wav_text (wav.Rate rate) =
-    codes "the chunk \"fmt \" has " ++ decimal rate ++ codes " samples a second, and not 8000 times 1, 2, 3, 4, 6, 8, 12 or 24: sox IN.wav -r 8000 OUT.wav"
+    codes "the chunk \"fmt \" has " ++ decimal rate
+    ++ codes " samples a second, and not 8000 times 1, 2, 3, 4, 6, 8, 12 or 24: sox IN.wav -r 8000 OUT.wav"
 wav_text (wav.Channel channels) =
     codes "the chunk \"fmt \" has " ++ decimal channels ++ codes " channels, and --channel names another one"
 
@@ -25,7 +26,8 @@ abbrev pub rx_text : RxFault → List ℕ
 rx_text rx.Read = codes "the sound could not be read"
 rx_text (rx.Wav fault) = codes "the sound is no WAV file that can be heard: " ++ wav_text fault
 rx_text (rx.Cut missing) =
-    codes "the sound is cut off: " ++ decimal missing ++ codes " samples of 8000 a second are missing at its end"
+    codes "the sound is cut off: " ++ decimal missing
+    ++ codes " samples of 8000 a second are missing at its end"
 rx_text rx.NoMemory = codes "out of memory"
 rx_text rx.Write = codes "what was heard could not be written"
 rx_text (rx.Late ms) =

@@ -29,7 +29,8 @@ at_text at.TooLong = codes "the entries are longer than 67108864 bytes"
 at_text (at.TextLine number fault) = codes "text line " ++ decimal number ++ codes " " ++ line_text fault
 at_text at.NoEntry = codes "there is no such entry"
 at_text (at.Early number) =
-    codes "text line " ++ decimal number ++ codes " has a time before that of the entry before it: lines have times of their own, --line N takes one"
+    codes "text line " ++ decimal number
+    ++ codes " has a time before that of the entry before it: lines have times of their own, --line N takes one"
 at_text at.Untold = codes "what is cut could not be told"
 
 -- of a sound that is not written

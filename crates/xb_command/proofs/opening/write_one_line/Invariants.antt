@@ -1,7 +1,7 @@
 use Rattle.std.specs.Fmt.{HasWritten, IsPlainFormatter}
 use Rattle.std.specs.List.{flat_map}
 use Rattle.xb_command.specs.FaultTexts.{sign_text}
-use Rattle.xb_command.proofs.opening.InOneLineDisplay.fmt.Given as goal
+use Rattle.xb_command.proofs.opening.write_one_line.Given as goal
 
 abbrev pub invariant-loop-sign : goal.invariant-loop-sign
 invariant-loop-sign g l =
