@@ -11,6 +11,7 @@ use crate::receiving::listen;
 use crate::report::Report;
 use crate::request::Input;
 use std::alloc::{AllocError, Global};
+use std::fmt;
 use std::io::{self, Read, Write};
 use thiserror::Error;
 use xb_command::{Files, InOneLine};
