@@ -2,7 +2,6 @@
 use Rattle.std.specs.Prelude.{ℕ, ◌++◌, List, codes, decimal}
 use Rattle.xb_model.specs.FaultTexts.{row_text}
 use Rattle.xb_routes.specs.FaultTexts.{route_text}
-use Rattle.xb_deck.specs.declared.table.TableFault.TheVariants as table
 use Rattle.xb_deck.specs.declared.table.TableFault.{TableFault}
 use Rattle.xb_deck.specs.declared.table.TableFault.TheVariants as table
 use Rattle.xb_deck.specs.declared.fault.DeckFault.{DeckFault}
