@@ -1,6 +1,6 @@
 -- The text of each fault.
-use Rattle.std.specs.Prelude.{ℕ, ◌++◌, ◌&&◌, ◌^◌, ◌-◌, [], false, nat_le, nat_lt, if◌then◌else◌, List, codes, decimal, encode_utf8}
-use Rattle.std.specs.Fmt.{digits, format_spec, padded_integral}
+use Rattle.std.specs.Prelude.{ℕ, ◌++◌, ◌&&◌, ◌/◌, ◌%◌, nat_le, nat_lt, if◌then◌else◌, List, codes, decimal, encode_utf8}
+use Rattle.std.specs.Char.{digit_char}
 use Rattle.std.specs.List.{flat_map}
 use Rattle.xb_calls.specs.declared.wrong_byte.WrongByte.{WrongByte}
 use Rattle.xb_calls.specs.declared.speed.SpeedFault.{SpeedFault}
@@ -14,7 +14,7 @@ told_text field = flat_map encode_utf8 field
 
 -- a byte in two hexadecimal digits
 abbrev pub hex_text : ℕ → List ℕ
-hex_text byte = padded_integral (format_spec 32 0 4 2 (2 ^ 64 - 1)) false [] (digits 16 false byte)
+hex_text byte = encode_utf8 (digit_char (byte / 16)) ++ encode_utf8 (digit_char (byte % 16))
 
 -- a byte that may not stand at its place: printable ASCII as it is
 abbrev pub wrong_byte_text : WrongByte → List ℕ
