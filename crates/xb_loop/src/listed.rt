@@ -1,5 +1,6 @@
 // The wires of a recording, a line each.
 ghost use Rattle.std.specs.Prelude.{◌≡◌, ◌++◌, IfOk, OnOk, map, option_map, string_bytes};
+ghost use Rattle.xb_command.specs.FaultTexts.{one_line};
 ghost use Rattle.xb_loop.specs.WireLines.{edges_text, lines_from, listing_text, wire_line};
 
 use crate::Listing;
@@ -7,6 +8,13 @@ use crate::listing::lent;
 use crate::wires::edges_at;
 use std::alloc::{AllocError, Global};
 use xb_command::InOneLine;
+
+// Adds a name in one line.
+fn push_name(text: &mut String, name: &str) -> Result<(), AllocError>
+    ensures { OnOk result (string_bytes text.new ≡ string_bytes text.old ++ one_line name.now) }
+{
+    write!(text, "{}", InOneLine(name))
+}
 
 // Adds how many edges a wire has, after a tab, where they were counted.
 fn push_edges(text: &mut String, edges: Option<u64>) -> Result<(), AllocError>
@@ -22,7 +30,7 @@ fn push_edges(text: &mut String, edges: Option<u64>) -> Result<(), AllocError>
 fn push_wire(text: &mut String, name: &str, edges: Option<u64>) -> Result<(), AllocError>
     ensures { OnOk result (string_bytes text.new ≡ string_bytes text.old ++ wire_line name.now edges) }
 {
-    write!(text, "{}", InOneLine(name))?;
+    push_name(text, name)?;
     push_edges(text, edges)?;
     text.push_str("\n")
 }
