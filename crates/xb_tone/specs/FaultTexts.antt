@@ -6,7 +6,7 @@ use Rattle.xb_sound.specs.FaultTexts.{cadence_text}
 use Rattle.xb_tone.specs.declared.objects_fault.LineFault.{LineFault}
 use Rattle.xb_tone.specs.declared.objects_fault.LineFault.TheVariants as line
 use Rattle.xb_tone.specs.declared.at_fault.AtFault.{AtFault}
-use Rattle.xb_tone.specs.declared.at_fault.AtFault.TheVariants as at
+use Rattle.xb_tone.specs.declared.at_fault.AtFault.TheVariants as timed
 use Rattle.xb_tone.specs.declared.fault.ToneFault.{ToneFault}
 use Rattle.xb_tone.specs.declared.fault.ToneFault.TheVariants as tone
 
@@ -24,14 +24,14 @@ line_text line.NoMemory = codes "out of memory"
 
 -- of entries that lie in time
 abbrev pub at_text : AtFault → List ℕ
-at_text at.Read = codes "the entries could not be read"
-at_text at.TooLong = codes "the entries are longer than 67108864 bytes"
-at_text (at.TextLine number fault) = codes "text line " ++ decimal number ++ codes " " ++ line_text fault
-at_text at.NoEntry = codes "there is no such entry"
-at_text (at.Early number) =
+at_text timed.Read = codes "the entries could not be read"
+at_text timed.TooLong = codes "the entries are longer than 67108864 bytes"
+at_text (timed.TextLine number fault) = codes "text line " ++ decimal number ++ codes " " ++ line_text fault
+at_text timed.NoEntry = codes "there is no such entry"
+at_text (timed.Early number) =
     codes "text line " ++ decimal number
     ++ codes " has a time before that of the entry before it: lines have times of their own, --line N takes one"
-at_text at.Untold = codes "what is cut could not be told"
+at_text timed.Untold = codes "what is cut could not be told"
 
 -- of a sound that is not written
 abbrev pub tone_text : ToneFault → List ℕ
