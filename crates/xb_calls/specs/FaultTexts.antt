@@ -1,16 +1,11 @@
 -- The text of each fault.
 use Rattle.std.specs.Prelude.{ℕ, ◌++◌, ◌&&◌, ◌/◌, ◌%◌, nat_le, nat_lt, if◌then◌else◌, List, codes, decimal, encode_utf8}
 use Rattle.std.specs.Char.{digit_char}
-use Rattle.std.specs.List.{flat_map}
 use Rattle.xb_calls.specs.declared.wrong_byte.WrongByte.{WrongByte}
 use Rattle.xb_calls.specs.declared.speed.SpeedFault.{SpeedFault}
 use Rattle.xb_calls.specs.declared.speed.SpeedFault.TheVariants as speed
 use Rattle.xb_calls.specs.declared.fault.CallFault.{CallFault}
 use Rattle.xb_calls.specs.declared.fault.CallFault.TheVariants as call
-
--- the beginning of a field
-abbrev pub told_text : List ℕ → List ℕ
-told_text field = flat_map encode_utf8 field
 
 -- a byte in two hexadecimal digits
 abbrev pub hex_text : ℕ → List ℕ
@@ -33,8 +28,7 @@ speed_text speed.HangUp = codes "the hang-up is no release, or longer than a day
 -- of the text of calls
 abbrev pub call_text : CallFault → List ℕ
 call_text (call.Line number field) =
-    codes "text line " ++ decimal number ++ codes ": \"" ++ told_text field
-    ++ codes "\" is no line of 0 to 9999"
+    codes "text line " ++ decimal number ++ codes ": \"" ++ field ++ codes "\" is no line of 0 to 9999"
 call_text (call.Digit number byte) =
     codes "text line " ++ decimal number ++ codes " has a wrong digit " ++ wrong_byte_text byte
 call_text (call.NoDigits number) = codes "text line " ++ decimal number ++ codes " has no digits"
