@@ -1,3 +1,4 @@
+pub mod FaultTexts
 pub mod Pieces
 pub mod Texts
 pub mod SummaryTexts

@@ -17,6 +17,7 @@ use Rattle.xb_hear.specs.declared.request.Request.{Request}
 use Rattle.xb_hear.specs.declared.words.Options.{Options}
 use Rattle.xb_hear.specs.DeckReport.{Delivers}
 use Rattle.xb_hear.specs.Options.{Say, request_of}
+use Rattle.xb_hear.specs.FaultTexts.{hear_text}
 
 -- exactly the report that is asked for was written
 pub record WritesReport (request : Request) (old new : Streams) : Type 0 where
@@ -27,7 +28,7 @@ pub record WritesReport (request : Request) (old new : Streams) : Type 0 where
 pub record HasFault (request : Request) (program : Program) (old new : Streams) : Type 0 where
   pub fault : HearFault
   pub report : Delivers request old.input (Err fault) old.output new.output
-  pub line : Tells program.name.now None old.errors new.errors
+  pub line : Tells program.name.now (Some (hear_text fault)) old.errors new.errors
 
 -- what stands before the rows of a recording: the route table that is printed with them, or the line that cuts off an
 -- empty one

@@ -15,6 +15,7 @@ use Rattle.xb_command.specs.declared.telling.TheConstants.{FAULT}
 use Rattle.xb_text.specs.Writing.{AppendsBeginning}
 use Rattle.xb_feed.specs.Options.{IsUnfit, SayNothing}
 use Rattle.xb_loop.specs.Options.{AskNothing}
+use Rattle.xb_loop.specs.FaultTexts.{loop_text}
 use Rattle.xb_loop.specs.WireLines.{more_note}
 use Rattle.xb_loop.specs.declared.common.Common.{Common}
 use Rattle.xb_loop.specs.declared.fault.LoopFault.{LoopFault}
@@ -125,7 +126,7 @@ more_or_not name request are_more old new status wires (inr (is, untold)) = reco
 -- it could not be told that there are more wires
 pub more_untold :
     (name : Text) (are_more : Bool) (begun old new : Option (List ℕ)) (status : ℕ) → are_more ≡ true
-    → AppendsBeginning old begun (more_note true) → status ≡ FAULT → Tells name None begun new
+    → AppendsBeginning old begun (more_note true) → status ≡ FAULT → Tells name (loop_text faults.More) begun new
     → TellsMore name are_more old new status
 more_untold name true begun old new status is first fails line = inr (fails, (begun, first, line))
 more_untold name false begun old new status is first fails line = cc

@@ -1,3 +1,4 @@
+pub mod FaultTexts
 pub mod Names
 pub mod Wires
 pub mod Counts

@@ -9,6 +9,7 @@ use crate::counts::EdgeCounts;
 use crate::found_names::wires_named;
 use crate::names::WireNames;
 use std::alloc::{AllocError, Global};
+use std::fmt;
 use std::io::Read;
 use thiserror::Error;
 use xb_contact::{Event, Refusal};
@@ -35,14 +36,26 @@ pub struct Listing {
 #[derive(Debug, Drop, Error)]
 pub enum ListFault {
     /// Its form is told by nothing, or it is a file of several.
-    #[error("the recording: {0}")]
     Untold(Refusal),
     /// A read failed, an interrupted one too, or the recording had not ended after 2^64 - 1 reads.
-    #[error("the recording could not be read")]
     Read(Unread),
     /// Memory ran out.
-    #[error("out of memory")]
     NoMemory,
+}
+
+impl fmt::Display for ListFault {
+    ghost use Rattle.std.specs.Prelude.{Some};
+    ghost use Rattle.xb_loop.specs.FaultTexts.{list_text};
+
+    ghost output = { λ fault. Some (list_text fault) };
+
+    fn fmt<W: fmt::Write>(&self, f: &mut fmt::Formatter<W>) -> fmt::Result {
+        match self {
+            ListFault::Untold(refusal) => write!(f, "the recording: {refusal}"),
+            ListFault::Read(_) => f.write_str("the recording could not be read"),
+            ListFault::NoMemory => f.write_str("out of memory"),
+        }
+    }
 }
 
 impl From<AllocError> for ListFault {

@@ -1,4 +1,5 @@
 pub mod Entries
+pub mod FaultTexts
 pub mod Sounds
 pub mod Times
 pub mod Cuts
