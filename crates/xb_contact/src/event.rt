@@ -16,6 +16,8 @@ pub enum Event {
     At(u64),
     /// From then on this wire, counted from 0, has this level: closed where it is high, and open where it is low.
     Level(usize, Level),
+    /// An edge of this wire: from then on it has this level, and up to then it had the other one.
+    Edge(usize, Level),
 }
 
 /// Why a part of a recording is refused. The text says what was wanted.
@@ -63,6 +65,9 @@ pub enum Refusal {
     /// A file whose head is that of no WAV whose samples can be read.
     #[error("a WAV of PCM, floats, A-law or mu-law was wanted: sox IN.wav -e signed -b 16 OUT.wav")]
     Wav,
+    /// Samples that begin as a file of another form does.
+    #[error("this begins as a recording of another form: leave --format out")]
+    OtherForm,
     /// Raw samples whose wires go to and fro with each byte, as where a sample has two.
     #[error("the wires go to and fro with each byte: give --format bits16")]
     TwoBytes,

@@ -14,4 +14,5 @@ pub mod Tables
 pub mod WireLines
 pub mod Program
 pub mod WireRecords
+pub mod FirstEdges
 pub mod RecordingLaws

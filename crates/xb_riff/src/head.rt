@@ -37,6 +37,9 @@ pub enum HeadFault {
     /// There are not 1 to 8 channels.
     #[error("the chunk \"fmt \" has {0} channels, and not 1 to 8: sox IN.wav OUT.wav remix 1")]
     Channels(u16),
+    /// The samples of all channels have other bytes than the format counts: those that it counts, and those that they have.
+    #[error("the chunk \"fmt \" counts {0} bytes for the samples of all channels, which have {1}")]
+    Block(u16, u16),
     /// The file ends before its samples.
     #[error("no chunk \"data\" has samples")]
     NoData,
@@ -136,16 +139,19 @@ fn format_of(chunk: &[u8]) -> Result<WavFormat, HeadFault>
     let channels = short_at(chunk, 2);
     let rate = long_at(chunk, 4);
     let coding = coding_of(kind, bits).ok_or(HeadFault::Coding(kind, bits))?;
-    if 0 < channels && channels < MOST_CHANNELS + 1 {
-        Ok(WavFormat {
-            coding,
-            channels: channels as u8,
-            rate,
-            length: None,
-        })
-    } else {
-        Err(HeadFault::Channels(channels))
+    if channels == 0 || channels > MOST_CHANNELS {
+        return Err(HeadFault::Channels(channels));
     }
+    let block = channels * coding.width() as u16;
+    if short_at(chunk, 12) != block {
+        return Err(HeadFault::Block(short_at(chunk, 12), block));
+    }
+    Ok(WavFormat {
+        coding,
+        channels: channels as u8,
+        rate,
+        length: None,
+    })
 }
 
 // The bytes of the samples, where a head says them: a program that writes to a pipe says 2 GB and more.

@@ -54,6 +54,12 @@ $enddefinitions $end\n$dumpvars\nb0 ab\nbxxxx0000 !\n$end\n#1000\nb1 ab\r\n#3000
         &["--wire", "7=2", "--inverted"],
         b"0,0,1\n0.01,1,0\n0.03,0,0\n",
     ),
+];
+
+// Edges of a contact that rests closed.
+const EDGE_ROWS: &[u8] = b"line,state,ms\n7,M,5\n7,B,10\n7,M,20\n";
+
+const EDGES: &[Form] = &[
     // gpiomon of libgpiod 1 and 2
     (
         &["--wire", "7=17"],
@@ -103,11 +109,11 @@ note\x03\x00\x00\x00abc\x00data\xff\xff\xff\xff\x00\xff\x80\xff\x47\xaf",
 ];
 
 // What has to come of a recording.
-fn case_of<'a>(words: &'a [&'a str], recording: &'a [u8]) -> Case<'a> {
+fn case_of<'a>(words: &'a [&'a str], recording: &'a [u8], rows: &'a [u8]) -> Case<'a> {
     Case {
         words,
         recording,
-        rows: ROWS,
+        rows,
         told: b"",
     }
 }
@@ -117,7 +123,13 @@ fn gives_the_rows_in_any_pieces(rt: HostRuntime) -> Result<(), Fail> {
     for step in [1, 3, 8_192] {
         for (words, recording) in TEXTS.iter().chain(SAMPLES) {
             let mut reader = Halting::new(recording, step);
-            check_reader(&rt, rt.alloc(), &mut reader, &case_of(words, recording), 0)?;
+            let case = case_of(words, recording, ROWS);
+            check_reader(&rt, rt.alloc(), &mut reader, &case, 0)?;
+        }
+        for (words, recording) in EDGES {
+            let mut reader = Halting::new(recording, step);
+            let case = case_of(words, recording, EDGE_ROWS);
+            check_reader(&rt, rt.alloc(), &mut reader, &case, 0)?;
         }
     }
     Ok(())
@@ -135,7 +147,7 @@ fn tells_the_form_of_a_long_line_in_any_pieces(rt: HostRuntime) -> Result<(), Fa
     recording.extend_from_slice(b"$enddefinitions $end\n#0 0!\n#10 1!\n#30\n")?;
     for step in [1, 1_000, 8_192] {
         let mut reader = Halting::new(&recording, step);
-        let case = case_of(&["--wire", "7=D0"], &recording);
+        let case = case_of(&["--wire", "7=D0"], &recording, ROWS);
         check_reader(&rt, rt.alloc(), &mut reader, &case, 0)?;
     }
     Ok(())

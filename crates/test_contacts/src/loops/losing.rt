@@ -29,14 +29,14 @@ const CASES: &[Case<'static>] = &[
             "gpiomon",
         ],
         recording: LOST,
-        rows: b"line,state,ms\n7,B,500\n7,M,61\n7,B,439\n7,M,1000\n8,M,1900\n",
+        rows: b"line,state,ms\n7,M,5\n8,B,100\n7,B,500\n7,M,61\n7,B,439\n7,M,1000\n8,M,1900\n",
         told: b"line 7: 0 bounces, the longest 0 us\nline 7: lost edges: 2\nline 8: 0 bounces, the longest 0 us\n",
     },
     // none is lost
     Case {
         words: &["--wire", "8=4", "--lossy"],
         recording: LOST,
-        rows: b"line,state,ms\n8,M,1900\n",
+        rows: b"line,state,ms\n8,B,100\n8,M,1900\n",
         told: b"",
     },
 ];
