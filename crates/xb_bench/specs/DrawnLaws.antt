@@ -40,7 +40,7 @@ told_now wire watch (events.At tick) =
     option_map_or (λ line. line_told by_digits tick line) (slice_get watch.lines wire) []
 told_now wire watch (events.Level other level) = []
 told_now wire watch (events.Edge other level) =
-    if other == wire then told_at_edge by_digits watch watch.scale wire level else []
+    if other == wire then told_at_edge by_digits watch watch.scale other level else []
 
 abbrev pub told_at : ℕ → Watch Bench Setting → List Event → List Told
 told_at wire watch [] = option_map_or (λ line. line_left by_digits line) (slice_get watch.lines wire) []

@@ -65,9 +65,6 @@ pub enum Refusal {
     /// A file whose head is that of no WAV whose samples can be read.
     #[error("a WAV of PCM, floats, A-law or mu-law was wanted: sox IN.wav -e signed -b 16 OUT.wav")]
     Wav,
-    /// Samples that begin as a file of another form does.
-    #[error("this begins as a recording of another form: leave --format out")]
-    OtherForm,
     /// Raw samples whose wires go to and fro with each byte, as where a sample has two.
     #[error("the wires go to and fro with each byte: give --format bits16")]
     TwoBytes,

@@ -106,7 +106,7 @@ wire_changed f common scale tick level wire lines =
 
 -- from how many ms on a make settles and seizes
 abbrev pub seizing_ms : Manner → ℕ
-seizing_ms manner = max 1 (max manner.settle_ms manner.seize_ms)
+seizing_ms manner = max (max manner.settle_ms manner.seize_ms) 1
 
 -- where a wire has its first edge, its record begins with the level that this leaves: at the first tick of the recording,
 -- and a make early enough to seize

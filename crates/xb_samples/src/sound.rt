@@ -4,7 +4,7 @@ ghost use Rattle.std.specs.List.{list_any};
 ghost use Rattle.xb_contact.specs.Steps.{AddsAll, IsOnly, IsRefusedBy, result_and_then};
 ghost use Rattle.xb_contact.specs.declared.event.Event.{Event as Saying};
 ghost use Rattle.xb_samples.specs.Pieces.{RunsOver, after_piece, piece_events};
-ghost use Rattle.xb_samples.specs.Sounds.{IsNewSound, SoundSays, begun_after, can_leave, changes_said, channel_of, edge_said, end_fault, greatest_after, heard_by, high_of, is_channel, level_in, own_bytes, rests_said, samples_after, sound_begins, sound_fault, sound_reading, sound_says, sound_state, turned, wire_after, wires_of};
+ghost use Rattle.xb_samples.specs.Sounds.{IsNewSound, SoundSays, begun_after, can_leave, changes_said, channel_of, edge_said, end_fault, greatest_after, heard_by, high_of, is_channel, level_in, own_bytes, rest_said, rests_said, samples_after, sound_begins, sound_fault, sound_reading, sound_says, sound_state, turned, wire_after, wires_of};
 ghost use Rattle.xb_samples.specs.declared.sound.TheConstants.{FIRST_TICK};
 ghost use Rattle.xb_samples.specs.Tails.{follows_more, left_after};
 
@@ -79,15 +79,24 @@ fn level_in(heard: Heard) -> Option<Level>
     }
 }
 
+// Says that a wire rests, where it has no edge.
+fn say_rest(wire: usize, heard: Heard, events: &mut Vec<Event>) -> Result<(), Refusal>
+    ensures said { OnOk result (events.new.items ≡ events.old.items ++ rest_said wire (level_in heard)) }
+    ensures only { IfErr result (λ e. e ≡ Refusal.NoMemory) }
+{
+    match level_in(heard) {
+        Some(_) => Ok(()),
+        None => say(events, Event::Level(wire, Level::Open)),
+    }
+}
+
 // Says that the wires without an edge rest.
 fn say_rests(wires: &[Channel], events: &mut Vec<Event>) -> Result<(), Refusal>
     ensures said { OnOk result (events.new.items ≡ events.old.items ++ rests_said 0 wires.now) }
     ensures only { IfErr result (λ e. e ≡ Refusal.NoMemory) }
 {
     for (i, wire) in wires.iter().enumerate() {
-        if level_in(wire.heard).is_none() {
-            say(events, Event::Level(i, Level::Open))?;
-        }
+        say_rest(i, wire.heard, events)?;
     }
     Ok(())
 }
@@ -138,14 +147,16 @@ fn wire_after(channel: u8, high: i16, sample: i16, wire: Channel) -> Channel
 fn say_edge(
     tick: u64,
     wire: usize,
-    was: Option<Level>,
-    level: Option<Level>,
+    was: Heard,
+    now: Heard,
     events: &mut Vec<Event>,
 ) -> Result<(), Refusal>
-    ensures said { OnOk result (events.new.items ≡ events.old.items ++ edge_said tick wire was level) }
+    ensures said { OnOk result
+        (events.new.items ≡ events.old.items ++ edge_said tick wire (level_in was) (level_in now)) }
     ensures only { IfErr result (λ e. e ≡ Refusal.NoMemory) }
 {
-    match level {
+    let was = level_in(was);
+    match level_in(now) {
         Some(level) if was != Some(level) => {
             say(events, Event::At(tick))?;
             say(events, Event::Edge(wire, level))
@@ -171,7 +182,7 @@ fn hear_sample(
 {
     for (i, wire) in wires.iter_mut().enumerate() {
         let after = wire_after(channel, high, sample, *wire);
-        say_edge(tick, i, level_in(wire.heard), level_in(after.heard), events)?;
+        say_edge(tick, i, wire.heard, after.heard, events)?;
         *wire = after;
     }
     Ok(())

@@ -1,10 +1,10 @@
-use Rattle.xb_samples.proofs.SoundLemmas.{all_said, level_said}
-use Rattle.xb_samples.proofs.sound.say_levels.Goals as goal
+use Rattle.xb_samples.proofs.SoundLemmas.{all_said, rest_more}
+use Rattle.xb_samples.proofs.sound.say_rests.Goals as goal
 
 pub loop-i-preserved : goal.loop-i-preserved
 loop-i-preserved c =
-    level_said c.args.wires.now c.loop-i.i _ c.loop-i.events.items c.say.new.events.items _ c.loop-i-test.true
-    c.in_ok-say.ensures.said c.loop-i.invariant
+    rest_more c.args.wires.now c.loop-i.i _ c.loop-i.events.items c.say_rest.new.events.items _ c.loop-i-test.true
+    c.in_ok-say_rest.ensures.said c.loop-i.invariant
 
 pub returns-clause-said : goal.returns-clause-said
 returns-clause-said c =
