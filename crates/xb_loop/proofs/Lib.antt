@@ -13,6 +13,7 @@ pub mod WireRows
 pub mod Followed
 pub mod Losses
 pub mod FirstEdges
+pub mod FirstMakes
 pub mod PassedTexts
 pub mod AloneLines
 pub mod Recordings

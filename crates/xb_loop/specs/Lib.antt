@@ -16,3 +16,4 @@ pub mod Program
 pub mod WireRecords
 pub mod FirstEdges
 pub mod RecordingLaws
+pub mod FirstMakes
