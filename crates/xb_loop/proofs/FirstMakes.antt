@@ -94,7 +94,7 @@ seized-make :
     → BeginWithMake ms (seized least release holds)
 seized-make least release ms holds some enough make =
     let (ticks, later, long, is) = runs-of-make ms holds some make in
-    let seizes : nat_lt ticks least ≡ false = le-ltb least ticks (omega (arith, enough, long)) in
+    let seizes : nat_lt ticks least ≡ false = le-ltb ticks least (omega (arith, enough, long)) in
     let P : List Hold → Type 0 = λ runs. BeginWithMake ms (runs_of (seizures least release 0 runs)) in
     let Q : Bool → Type 0 = λ b.
     BeginWithMake ms (cond b (hold_of Open ticks ∷ seizures least release 0 later)
