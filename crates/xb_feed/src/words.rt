@@ -291,10 +291,10 @@ fn any_rings(lines: &[AskedLine]) -> bool
     false
 }
 
-/// What words ask for, where this holds for all lines; notes are asked for where edges may be lost, or a line rings, too. Or why they ask for
-/// nothing: there is no such form or threshold, or another form than that of gpiomon where edges may be lost; or a word is
-/// no wire, names a line again, or has a word after a comma that is none, or is said twice, or rings where a make of under
-/// 68 ms seizes.
+/// What words ask for, where this holds for all lines; notes are asked for where edges may be lost, or a line rings, too.
+/// Or why they ask for nothing: there is no such form or threshold, or another form than that of gpiomon where edges may
+/// be lost; or a word is no wire, names a line again, or has a word after a comma that is none, or is said twice, or rings
+/// where a make of under 68 ms seizes.
 pub fn request_of<'a, G: Drop>(
     alloc: Global,
     words: &Words<'a>,
