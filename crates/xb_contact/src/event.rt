@@ -17,6 +17,8 @@ pub enum Event {
     At(u64),
     /// From then on this wire, counted from 0, has this level: closed where it is high, and open where it is low.
     Level(usize, Level),
+    /// An edge of this wire: from then on it has this level, and up to then it had the other one.
+    Edge(usize, Level),
 }
 
 /// Why a part of a recording is refused. The text says what was wanted.

@@ -15,4 +15,6 @@ pub mod Tables
 pub mod WireLines
 pub mod Program
 pub mod WireRecords
+pub mod FirstEdges
 pub mod RecordingLaws
+pub mod FirstMakes

@@ -3,7 +3,7 @@ ghost use Rattle.std.specs.Prelude.{◌≡◌, ◌≤◌, ◌++◌, ◌∷◌, [
 ghost use Rattle.std.specs.Io.KnownBytes.{Consumes, IsAtEnd, prepend_known};
 ghost use Rattle.xb_recording.specs.Beginnings.{form_told};
 ghost use Rattle.xb_recording.specs.Says.{is_text};
-ghost use Rattle.xb_loop.specs.Listing.{CountsMore, CountsOn, CountsRest, BeginsUntold, HasEdges, IsCount, IsFromOutside, IsUnlisted, ListsWires, edges_of, is_each};
+ghost use Rattle.xb_loop.specs.Listing.{CountsMore, CountsOn, CountsRest, BeginsUntold, HasEdges, IsCount, IsFromOutside, IsUnlisted, ListsWires, edges_of};
 
 use crate::counts::EdgeCounts;
 use crate::found_names::wires_named;
@@ -243,13 +243,6 @@ impl<'a> Counter<'a> {
     }
 }
 
-// Whether each level that is said is an edge.
-fn is_each(format: Format) -> bool
-    ensures { result ≡ is_each format }
-{
-    format == Format::Gpiomon
-}
-
 // The edges that were counted, in order.
 fn edges_of(alloc: Global, counts: &EdgeCounts) -> Result<Vec<u64>, AllocError>
     ensures { IfOk result (λ edges. edges.items ≡ edges_of counts.now.seen.items) }
@@ -274,7 +267,7 @@ fn count<R: Read>(
 {
     let mut events = Vec::new(alloc);
     let reader = Reader::new(alloc, wanted, format, &mut events)?;
-    let mut counts = EdgeCounts::new(alloc, is_each(format), wanted.wires.len())?;
+    let mut counts = EdgeCounts::new(alloc, wanted.wires.len())?;
     counts.take(&events);
     let mut counter = Counter {
         reader,

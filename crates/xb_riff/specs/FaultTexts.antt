@@ -13,4 +13,7 @@ head_text (head.Coding format bits) =
 head_text (head.Channels channels) =
     codes "the chunk \"fmt \" has " ++ decimal channels
     ++ codes " channels, and not 1 to 8: sox IN.wav OUT.wav remix 1"
+head_text (head.Block counted had) =
+    codes "the chunk \"fmt \" counts " ++ decimal counted
+    ++ codes " bytes for the samples of all channels, which have " ++ decimal had
 head_text head.NoData = codes "no chunk \"data\" has samples"

@@ -34,6 +34,8 @@ pub enum HeadFault {
     Coding(u16, u16),
     /// There are not 1 to 8 channels.
     Channels(u16),
+    /// The samples of all channels have other bytes than the format counts: those that it counts, and those that they have.
+    Block(u16, u16),
     /// The file ends before its samples.
     NoData,
 }
@@ -57,6 +59,10 @@ impl fmt::Display for HeadFault {
             HeadFault::Channels(channels) => write!(
                 f,
                 "the chunk \"fmt \" has {channels} channels, and not 1 to 8: sox IN.wav OUT.wav remix 1"
+            ),
+            HeadFault::Block(counted, had) => write!(
+                f,
+                "the chunk \"fmt \" counts {counted} bytes for the samples of all channels, which have {had}"
             ),
             HeadFault::NoData => f.write_str("no chunk \"data\" has samples"),
         }
@@ -157,16 +163,19 @@ fn format_of(chunk: &[u8]) -> Result<WavFormat, HeadFault>
     let channels = short_at(chunk, 2);
     let rate = long_at(chunk, 4);
     let coding = coding_of(kind, bits).ok_or(HeadFault::Coding(kind, bits))?;
-    if 0 < channels && channels < MOST_CHANNELS + 1 {
-        Ok(WavFormat {
-            coding,
-            channels: channels as u8,
-            rate,
-            length: None,
-        })
-    } else {
-        Err(HeadFault::Channels(channels))
+    if channels == 0 || channels > MOST_CHANNELS {
+        return Err(HeadFault::Channels(channels));
     }
+    let block = channels * coding.width() as u16;
+    if short_at(chunk, 12) != block {
+        return Err(HeadFault::Block(short_at(chunk, 12), block));
+    }
+    Ok(WavFormat {
+        coding,
+        channels: channels as u8,
+        rate,
+        length: None,
+    })
 }
 
 // The bytes of the samples, where a head says them: a program that writes to a pipe says 2 GB and more.
