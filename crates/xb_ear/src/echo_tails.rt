@@ -62,11 +62,7 @@ fn is_outdone(before: &[Option<Sight>], seen: Option<Sight>) -> bool
 pub(crate) fn without_tail(before: &[Option<Sight>], seen: Option<Sight>) -> Option<Sight>
     ensures { result ≡ without_tail before.now seen }
 {
-    if is_outdone(before, seen) {
-        None
-    } else {
-        seen
-    }
+    if is_outdone(before, seen) { None } else { seen }
 }
 
 /// Moves the last windows on by one, which sees this.

@@ -6,11 +6,14 @@ use crate::figures::{gap_ms, length_ms};
 use crate::keys::NamedKey;
 use std::alloc::{AllocError, Global};
 
-/// Half a key and its gap more than is usual is no doubt, nor are so many ms besides.
+/// Two thirds of a key and its gap more than is usual are no doubt, nor are so many ms besides.
 pub(crate) const LONG_GAP_MS: u64 = 10;
 
-/// A key that is half as long again as is usual is no doubt, nor are so many ms besides.
+/// A key that is longer by two thirds than is usual is no doubt, nor are so many ms besides.
 pub(crate) const LONG_KEY_MS: u64 = 6;
+
+/// No sender leaves less than so many ms between two keys.
+pub(crate) const LEAST_GAP_MS: u64 = 20;
 
 /// What is usual in a keying.
 #[derive(Clone, Copy, Debug, PartialEq, Eq)]
@@ -106,7 +109,7 @@ impl Rhythm {
         ensures { result ≡ most_gap_ms self }
     {
         let gap = u128::from(self.gap_ms);
-        gap + (gap + u128::from(self.key_ms)) / 2 + u128::from(LONG_GAP_MS)
+        gap + 2 * (gap + u128::from(self.key_ms)) / 3 + u128::from(LONG_GAP_MS)
     }
 
     /// The longest key that is no doubt.
@@ -114,7 +117,7 @@ impl Rhythm {
         ensures { result ≡ most_key_ms self }
     {
         let key = u128::from(self.key_ms);
-        key + key / 2 + u128::from(LONG_KEY_MS)
+        key + 2 * key / 3 + u128::from(LONG_KEY_MS)
     }
 
     /// The shortest one.
