@@ -1,5 +1,5 @@
 -- The lines of what is doubtful of a keying, and of a key that stands in none.
-use Rattle.std.specs.Prelude.{ℕ, ◌-◌, ◌==◌, List, [], ◌∷◌, ◌++◌, codes, decimal, if◌then◌else◌, length}
+use Rattle.std.specs.Prelude.{ℕ, ◌-◌, List, [], ◌∷◌, ◌++◌, codes, decimal, if◌then◌else◌, length, nat_le}
 use Rattle.xb_measured.specs.declared.heard.Heard.{Heard}
 use Rattle.xb_measured.specs.Figures.{start_ms}
 use Rattle.xb_measured.specs.Meanings.{meaning_of, name_text}
@@ -37,20 +37,20 @@ effect_text effects.Missing = codes "one may be missing"
 effect_text effects.Extra = codes "one may be too many"
 effect_text effects.Cut = codes "it may be cut"
 
--- how many doubts there are besides
-abbrev pub more_text : ℕ → List ℕ
-more_text more = if more == 0 then [] else codes ", and " ++ (decimal more ++ codes " doubts more")
+-- of how many doubts it is the first
+abbrev pub count_text : ℕ → List ℕ
+count_text count = if nat_le count 1 then [] else codes "; the first of " ++ (decimal count ++ codes " doubts")
 
--- the line of the first doubt of an entry of this number, which begins then
+-- the line of the first of so many doubts of an entry of this number, which begins then
 abbrev pub doubt_line : ℕ → ℕ → ℕ → Doubt → List ℕ
-doubt_line entry at more d =
+doubt_line entry at count d =
     codes "mfrx: entry " ++ (decimal entry ++ (codes " at " ++ (seconds_text at ++ (codes " s: " ++ (reason_text d
-    ++ (codes ": " ++ (effect_text d.effect ++ (more_text more ++ codes "\n"))))))))
+    ++ (codes ": " ++ (effect_text d.effect ++ (count_text count ++ codes "\n"))))))))
 
 -- an entry has one line, where something is doubtful of it
 abbrev pub doubt_lines : ℕ → ℕ → List Doubt → List ℕ
 doubt_lines entry at [] = []
-doubt_lines entry at (d ∷ ds) = doubt_line entry at (length ds) d
+doubt_lines entry at (d ∷ ds) = doubt_line entry at (length (d ∷ ds)) d
 
 -- a keying begins with its first key
 abbrev pub began_ms : List Heard → ℕ

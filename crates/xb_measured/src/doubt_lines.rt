@@ -1,6 +1,6 @@
 // The lines of doubts.
 ghost use Rattle.std.specs.Prelude.{◌≡◌, IfOk, string_bytes};
-ghost use Rattle.xb_measured.specs.DoubtLines.{began_ms, doubt_lines, doubts_text, gap_reason, length_reason, more_text};
+ghost use Rattle.xb_measured.specs.DoubtLines.{began_ms, count_text, doubt_lines, doubts_text, gap_reason, length_reason};
 
 use crate::doubts::{Doubt, DoubtKind, Effect, doubts_of};
 use crate::figures::start_ms;
@@ -39,14 +39,14 @@ fn length_reason(alloc: Global, key: usize, ms: u64, usual: u64) -> Result<Strin
     format!(in alloc; "its key {key} lasts {ms} ms, where {usual} are usual")
 }
 
-// How many doubts there are besides.
-fn more_text(alloc: Global, more: usize) -> Result<String, AllocError>
-    ensures { IfOk result (λ text. string_bytes text ≡ more_text more) }
+// Of how many doubts it is the first.
+fn count_text(alloc: Global, count: usize) -> Result<String, AllocError>
+    ensures { IfOk result (λ text. string_bytes text ≡ count_text count) }
 {
-    if more == 0 {
+    if count <= 1 {
         return Ok(String::new(alloc));
     }
-    format!(in alloc; ", and {more} doubts more")
+    format!(in alloc; "; the first of {count} doubts")
 }
 
 impl Doubt {
@@ -65,15 +65,15 @@ impl Doubt {
         }
     }
 
-    // The line of it, of the entry of this number, which begins at so many ms and has so many doubts more.
-    fn line(self, alloc: Global, entry: usize, at: u64, more: usize) -> Result<String, AllocError>
-        ensures { IfOk result (λ text. string_bytes text ≡ doubt_line entry at more self) }
+    // The line of it, the first of so many, of the entry of this number, which begins at so many ms.
+    fn line(self, alloc: Global, entry: usize, at: u64, count: usize) -> Result<String, AllocError>
+        ensures { IfOk result (λ text. string_bytes text ≡ doubt_line entry at count self) }
     {
         let place = seconds_text(alloc, at)?;
         let reason = self.reason(alloc)?;
         let effect = self.effect.text();
-        let besides = more_text(alloc, more)?;
-        format!(in alloc; "mfrx: entry {entry} at {place} s: {reason}: {effect}{besides}\n")
+        let of = count_text(alloc, count)?;
+        format!(in alloc; "mfrx: entry {entry} at {place} s: {reason}: {effect}{of}\n")
     }
 }
 
@@ -81,9 +81,9 @@ impl Doubt {
 fn doubt_lines(alloc: Global, entry: usize, at: u64, doubts: &[Doubt]) -> Result<String, AllocError>
     ensures { IfOk result (λ text. string_bytes text ≡ doubt_lines entry at doubts.now) }
 {
-    match doubts.split_first() {
+    match doubts.first() {
         None => Ok(String::new(alloc)),
-        Some((first, later)) => first.line(alloc, entry, at, later.len()),
+        Some(first) => first.line(alloc, entry, at, doubts.len()),
     }
 }
 
@@ -97,8 +97,8 @@ pub fn began_ms(keys: &[NamedKey]) -> u64
     }
 }
 
-/// What is told of the doubts of a keying, the entry of this number: a line with the first one, and how many more there
-/// are. `Err` says that memory ran out.
+/// What is told of the doubts of a keying, the entry of this number: a line with the first one, and of how many it is
+/// the first. `Err` says that memory ran out.
 pub fn doubts_text(alloc: Global, entry: usize, keys: &[NamedKey]) -> Result<String, AllocError>
     ensures { IfOk result (λ text. string_bytes text ≡ doubts_text entry keys.now) }
 {
