@@ -141,7 +141,7 @@ def doubts(part):
     told = []
     for count, key in enumerate(keys[1:], 2):
         between = f"{key['gap_ms']} ms between its keys {count - 1} and {count}, where {gap} are usual: "
-        if key["gap_ms"] > gap + 2 * (gap + usual) // 3 + 10:
+        if key["gap_ms"] > gap + (gap + usual) // 2 + 8:
             told.append(between + "one may be missing")
         elif key["gap_ms"] < 20:
             told.append(between + "one may be too many")

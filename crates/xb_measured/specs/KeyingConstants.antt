@@ -6,6 +6,6 @@ use Rattle.xb_measured.specs.declared.rhythm.TheConstants.{LEAST_GAP_MS, LONG_GA
 -- a definition that cites a constant means this number
 pub record KeyingsAreBounded : Type 0 where
   pub most_digits : MOST_DIGITS ≡ 64
-  pub long_gap_ms : LONG_GAP_MS ≡ 10
+  pub long_gap_ms : LONG_GAP_MS ≡ 8
   pub least_gap_ms : LEAST_GAP_MS ≡ 20
   pub long_key_ms : LONG_KEY_MS ≡ 6

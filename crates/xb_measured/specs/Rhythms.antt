@@ -46,10 +46,9 @@ rhythm_of keys = record {
   gap_ms = ranked ((length (gaps_after None keys) + 3) / 4) (gaps_after None keys);
 }
 
--- a gap may be longer than is usual by two thirds of a key and its gap; where a key was not heard it is longer by all of
--- both
+-- a gap may be longer than is usual by half a key and its gap; where a key was not heard it is longer by all of both
 abbrev pub most_gap_ms : Rhythm → ℕ
-most_gap_ms rhythm = rhythm.gap_ms + 2 * (rhythm.gap_ms + rhythm.key_ms) / 3 + LONG_GAP_MS
+most_gap_ms rhythm = rhythm.gap_ms + (rhythm.gap_ms + rhythm.key_ms) / 2 + LONG_GAP_MS
 
 -- a key may be longer by two thirds, and half as long
 abbrev pub most_key_ms : Rhythm → ℕ

@@ -11,7 +11,7 @@ use std::alloc::{AllocError, Global};
 /// How a key does not keep to the rhythm of its keying.
 #[derive(Clone, Copy, Debug, PartialEq, Eq)]
 pub(crate) enum DoubtKind {
-    /// The time since the key before it is longer than is usual, by more than two thirds of a key and its gap.
+    /// The time since the key before it is longer than is usual, by more than half a key and its gap.
     LongGap,
     /// The time since the key before it is shorter than any sender leaves.
     ShortGap,

@@ -6,8 +6,8 @@ use crate::figures::{gap_ms, length_ms};
 use crate::keys::NamedKey;
 use std::alloc::{AllocError, Global};
 
-/// Two thirds of a key and its gap more than is usual are no doubt, nor are so many ms besides.
-pub(crate) const LONG_GAP_MS: u64 = 10;
+/// Half a key and its gap more than is usual are no doubt, nor are so many ms besides.
+pub(crate) const LONG_GAP_MS: u64 = 8;
 
 /// A key that is longer by two thirds than is usual is no doubt, nor are so many ms besides.
 pub(crate) const LONG_KEY_MS: u64 = 6;
@@ -109,7 +109,7 @@ impl Rhythm {
         ensures { result ≡ most_gap_ms self }
     {
         let gap = u128::from(self.gap_ms);
-        gap + 2 * (gap + u128::from(self.key_ms)) / 3 + u128::from(LONG_GAP_MS)
+        gap + (gap + u128::from(self.key_ms)) / 2 + u128::from(LONG_GAP_MS)
     }
 
     /// The longest key that is no doubt.
