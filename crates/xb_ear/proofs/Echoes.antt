@@ -2,7 +2,7 @@
 use Rattle.std.proofs.Common.{◌≡◌, ◌∙◌, ℕ, zero, suc, ◌+◌, ◌-◌, ◌*◌, ◌<◌, ◌≤◌, Bool, true, false, ◌||◌, List, map, length, sym, ap, subst, arith, refl, ℤ, Option, None, inl, inr}
 use Rattle.std.specs.Prelude.{if◌then◌else◌, nat_le, nat_lt}
 use Rattle.std.specs.List.{range_with_len}
-use Rattle.std.proofs.lemmas.Bool.{cases_lt, le-ltb, leb-false, lt-ltb, lt-leb}
+use Rattle.std.proofs.lemmas.Bool.{cases_lt, le-ltb, leb-false, lt-ltb}
 use Rattle.std.proofs.lemmas.Simd.{map-map}
 use Rattle.xb_model.specs.declared.key.Tone.{Tone as Pair}
 use Rattle.xb_ear.specs.declared.sight.Sight.{Sight}
@@ -24,7 +24,7 @@ module _ (f : ℕ → Option Sight) (s : Option Sight) where
   none-does zero a r low = refl
   none-does (suc n) a r low =
       ap (λ (b : Bool). if b then nat_le TAIL_ROW (r + 1) || outdone (r + 1) (a + 1) n else outdone 0 (a + 1) n)
-      (le-ltb (TAIL_WEAKER * strength s) (counted s (f a)) (low a (omega arith)))
+      (le-ltb (TAIL_WEAKER * strength s) (counted s (f a)) (omega (arith, low a (omega arith))))
       ∙ none-does n (a + 1) 0 (λ k below. low k (omega (arith, below)))
 
   -- one window that does, and the rest
@@ -32,28 +32,27 @@ module _ (f : ℕ → Option Sight) (s : Option Sight) where
       → outdone r a (suc n) ≡ true
   one-does n a r loud rest =
       ap (λ (b : Bool). if b then nat_le TAIL_ROW (r + 1) || outdone (r + 1) (a + 1) n else outdone 0 (a + 1) n)
-      (lt-ltb (TAIL_WEAKER * strength s) (counted s (f a)) loud)
+      (lt-ltb (TAIL_WEAKER * strength s) (counted s (f a)) (omega (arith, loud)))
       ∙ rest
 
   -- a row of windows that do, of which r were before
   row-does : (m n a r : ℕ) → m ≤ n → r ≤ 5 → 6 ≤ r + m → ((d : ℕ) → d < m → Outdoes (f (a + d)) s) → outdone r a n ≡ true
   row-does zero n a r fits few long loud = absurd (omega (arith, few, long))
   row-does (suc m) zero a r fits few long loud = absurd (omega (arith, fits))
-  row-does (suc m) (suc n) a r fits few long loud = one-does n a r here (by (nat_le TAIL_ROW (r + 1)) refl)
+  row-does (suc m) (suc n) a r fits few long loud =
+      let first : a + 0 ≡ a = omega arith in
+      one-does n a r (subst (λ (i : ℕ). Outdoes (f i) s) first (loud 0 (omega arith)))
+      (by (nat_le TAIL_ROW (r + 1)) refl
+      (λ less. row-does m n (a + 1) (r + 1) (omega (arith, fits)) less (omega (arith, long))
+      (λ d below.
+      let same : a + suc d ≡ a + 1 + d = omega arith in
+      subst (λ (i : ℕ). Outdoes (f i) s) same (loud (suc d) (omega (arith, below))))))
     where
-      here : Outdoes (f a) s
-      here =
-          let same : a + 0 ≡ a = omega arith in
-          subst (λ (i : ℕ). Outdoes (f i) s) same (loud 0 (omega arith))
-
-      by : (b : Bool) → nat_le TAIL_ROW (r + 1) ≡ b → (b || outdone (r + 1) (a + 1) n) ≡ true
-      by true e = refl
-      by false e =
-          let less : r + 1 < 6 = leb-false _ _ e in
-          row-does m n (a + 1) (r + 1) (omega (arith, fits)) (omega (arith, less)) (omega (arith, long))
-          (λ d below.
-          let same : a + suc d ≡ a + 1 + d = omega arith in
-          subst (λ (i : ℕ). Outdoes (f i) s) same (loud (suc d) (omega (arith, below))))
+      by : (b : Bool) → nat_le TAIL_ROW (r + 1) ≡ b → (r + 1 ≤ 5 → outdone (r + 1) (a + 1) n ≡ true)
+          → (b || outdone (r + 1) (a + 1) n) ≡ true
+      by true e later = refl
+      by false e later =
+          let less = leb-false _ _ e in later (omega (arith, less))
 
   -- and after others
   row-comes : (p n a r : ℕ) → p + 6 ≤ n → r ≤ 5 → ((d : ℕ) → d < 6 → Outdoes (f (a + p + d)) s) → outdone r a n ≡ true
@@ -65,20 +64,17 @@ module _ (f : ℕ → Option Sight) (s : Option Sight) where
   row-comes (suc p) zero a r fits few loud = absurd (omega (arith, fits))
   row-comes (suc p) (suc n) a r fits few loud =
       by (nat_lt (TAIL_WEAKER * strength s) (counted s (f a))) (nat_le TAIL_ROW (r + 1)) refl
+      (λ t small. row-comes p n (a + 1) t (omega (arith, fits)) small
+      (λ d below.
+      let same : a + suc p + d ≡ a + 1 + p + d = omega arith in
+      subst (λ (i : ℕ). Outdoes (f i) s) same (loud d below)))
     where
-      later : (t : ℕ) → t ≤ 5 → outdone t (a + 1) n ≡ true
-      later t few =
-          row-comes p n (a + 1) t (omega (arith, fits)) few
-          (λ d below.
-          let same : a + suc p + d ≡ a + 1 + p + d = omega arith in
-          subst (λ (i : ℕ). Outdoes (f i) s) same (loud d below))
-
-      by : (b c : Bool) → nat_le TAIL_ROW (r + 1) ≡ c
+      by : (b c : Bool) → nat_le TAIL_ROW (r + 1) ≡ c → ((t : ℕ) → t ≤ 5 → outdone t (a + 1) n ≡ true)
           → (if b then nat_le TAIL_ROW (r + 1) || outdone (r + 1) (a + 1) n else outdone 0 (a + 1) n) ≡ true
-      by false c e = later 0 (omega arith)
-      by true true e = ap (λ (b : Bool). b || outdone (r + 1) (a + 1) n) e
-      by true false e =
-          let less : r + 1 < 6 = leb-false _ _ e in
+      by false c e later = later 0 (omega arith)
+      by true true e later = ap (λ (b : Bool). b || outdone (r + 1) (a + 1) n) e
+      by true false e later =
+          let less = leb-false _ _ e in
           ap (λ (b : Bool). b || outdone (r + 1) (a + 1) n) e ∙ later (r + 1) (omega (arith, less))
 
 -- silence before the first window outdoes nothing
@@ -103,7 +99,7 @@ no-tail : (samples : List ℤ) (w : ℕ) → ((i : ℕ) → i < w → IsNoLouder
     → seen_at samples w ≡ sight_at samples w
 no-tail samples w low =
     kept (held_before samples w) (sight_at samples w)
-    (none-does (held samples) (sight_at samples w) TAIL_WINDOWS w 0 (λ k below. held-no-louder samples w k below low))
+    (none-does (held samples) (sight_at samples w) TAIL_WINDOWS w 0 (λ k below. held-no-louder samples w k (omega (arith, below)) low))
 
 pub unequal_keys_are_heard : UnequalKeysAreHeard
 unequal_keys_are_heard samples low =

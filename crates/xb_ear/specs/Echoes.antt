@@ -1,7 +1,6 @@
 -- Keys of unequal level are no tails, and echoes are.
 use Rattle.std.specs.Prelude.{◌≡◌, ℕ, ◌+◌, ◌*◌, ◌<◌, ◌≤◌, List, map, length, Option, None, ℤ}
 use Rattle.std.specs.List.{range_with_len}
-use Rattle.xb_model.specs.declared.key.Tone.{Tone as Pair}
 use Rattle.xb_ear.specs.declared.sight.Sight.{Sight}
 use Rattle.xb_ear.specs.Ears.{seen_at, sight_at, windows_in}
 use Rattle.xb_ear.specs.HeardKeys.{pairs_in}
