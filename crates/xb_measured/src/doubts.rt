@@ -1,6 +1,6 @@
 // Why a keying that was heard may be another one.
 ghost use Rattle.std.specs.Prelude.{◌≡◌, ◌++◌, None, IfOk, OnOk};
-ghost use Rattle.xb_measured.specs.Doubts.{doubts_after, doubts_of, gap_doubts, gap_doubts_by, length_doubts, length_doubts_by, listed_doubt, short_effect};
+ghost use Rattle.xb_measured.specs.Doubts.{doubt, doubts_after, doubts_of, gap_doubts, gap_doubts_by, length_doubts, length_doubts_by, listed_doubt, short_effect};
 
 use crate::figures::{Figures, figures_of};
 use crate::keys::{NamedKey, begins_keying, digit_by};
@@ -47,24 +47,31 @@ pub(crate) struct Doubt {
     pub usual: u64,
 }
 
-// The doubt that is made by this time before a key, if it is too long or too short.
-fn gap_doubt_by(rhythm: Rhythm, key: usize, ms: u64) -> Option<Doubt>
-    ensures { listed_doubt result ≡ gap_doubts_by rhythm key ms }
+// A doubt of a key of this number, which has so many ms.
+fn doubt(kind: DoubtKind, effect: Effect, key: usize, ms: u64, usual: u64) -> Doubt
+    ensures { result ≡ doubt kind effect key ms usual }
 {
-    let (kind, effect) = if rhythm.most_gap_ms() < u128::from(ms) {
-        (DoubtKind::LongGap, Effect::Missing)
-    } else if ms < LEAST_GAP_MS {
-        (DoubtKind::ShortGap, Effect::Extra)
-    } else {
-        return None;
-    };
-    Some(Doubt {
+    Doubt {
         kind,
         effect,
         key,
         ms,
-        usual: rhythm.gap_ms,
-    })
+        usual,
+    }
+}
+
+// The doubt that is made by this time before a key, if it is too long or too short.
+fn gap_doubt_by(rhythm: Rhythm, key: usize, ms: u64) -> Option<Doubt>
+    ensures { listed_doubt result ≡ gap_doubts_by rhythm key ms }
+{
+    let usual = rhythm.gap_ms;
+    if rhythm.most_gap_ms() < u128::from(ms) {
+        Some(doubt(DoubtKind::LongGap, Effect::Missing, key, ms, usual))
+    } else if ms < LEAST_GAP_MS {
+        Some(doubt(DoubtKind::ShortGap, Effect::Extra, key, ms, usual))
+    } else {
+        None
+    }
 }
 
 // The doubt that is made by the time before a key, if there is one.
@@ -92,20 +99,14 @@ fn short_effect(meaning: &Meaning) -> Effect
 fn length_doubt_by(rhythm: Rhythm, key: usize, meaning: &Meaning, ms: u64) -> Option<Doubt>
     ensures { listed_doubt result ≡ length_doubts_by rhythm key meaning.now ms }
 {
-    let (kind, effect) = if rhythm.most_key_ms() < u128::from(ms) {
-        (DoubtKind::LongKey, Effect::Missing)
+    let usual = rhythm.key_ms;
+    if rhythm.most_key_ms() < u128::from(ms) {
+        Some(doubt(DoubtKind::LongKey, Effect::Missing, key, ms, usual))
     } else if ms < rhythm.least_key_ms() {
-        (DoubtKind::ShortKey, short_effect(meaning))
+        Some(doubt(DoubtKind::ShortKey, short_effect(meaning), key, ms, usual))
     } else {
-        return None;
-    };
-    Some(Doubt {
-        kind,
-        effect,
-        key,
-        ms,
-        usual: rhythm.key_ms,
-    })
+        None
+    }
 }
 
 // The doubt that is made by the length of a key, if there is one.

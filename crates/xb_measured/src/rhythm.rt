@@ -1,6 +1,6 @@
 // The rhythm of a keying.
 ghost use Rattle.std.specs.Prelude.{◌≡◌, ◌≤◌, ◌++◌, None, IfOk, OnOk, length};
-ghost use Rattle.xb_measured.specs.Rhythms.{count_up_to, gaps_after, least_key_ms, lengths_of, listed_ms, most_gap_ms, most_key_ms, ranked, rhythm_of};
+ghost use Rattle.xb_measured.specs.Rhythms.{count_up_to, gaps_after, lengths_of, listed_ms, ranked, rhythm_of};
 
 use crate::figures::{gap_ms, length_ms};
 use crate::keys::NamedKey;
