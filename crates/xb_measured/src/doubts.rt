@@ -48,7 +48,7 @@ pub(crate) struct Doubt {
 }
 
 // A doubt of a key of this number, which has so many ms.
-fn doubt(kind: DoubtKind, effect: Effect, key: usize, ms: u64, usual: u64) -> Doubt
+fn doubt_with(kind: DoubtKind, effect: Effect, key: usize, ms: u64, usual: u64) -> Doubt
     ensures { result ≡ doubt kind effect key ms usual }
 {
     Doubt {
@@ -66,9 +66,9 @@ fn gap_doubt_by(rhythm: Rhythm, key: usize, ms: u64) -> Option<Doubt>
 {
     let usual = rhythm.gap_ms;
     if rhythm.most_gap_ms() < u128::from(ms) {
-        Some(doubt(DoubtKind::LongGap, Effect::Missing, key, ms, usual))
+        Some(doubt_with(DoubtKind::LongGap, Effect::Missing, key, ms, usual))
     } else if ms < LEAST_GAP_MS {
-        Some(doubt(DoubtKind::ShortGap, Effect::Extra, key, ms, usual))
+        Some(doubt_with(DoubtKind::ShortGap, Effect::Extra, key, ms, usual))
     } else {
         None
     }
@@ -101,9 +101,9 @@ fn length_doubt_by(rhythm: Rhythm, key: usize, meaning: &Meaning, ms: u64) -> Op
 {
     let usual = rhythm.key_ms;
     if rhythm.most_key_ms() < u128::from(ms) {
-        Some(doubt(DoubtKind::LongKey, Effect::Missing, key, ms, usual))
+        Some(doubt_with(DoubtKind::LongKey, Effect::Missing, key, ms, usual))
     } else if ms < rhythm.least_key_ms() {
-        Some(doubt(DoubtKind::ShortKey, short_effect(meaning), key, ms, usual))
+        Some(doubt_with(DoubtKind::ShortKey, short_effect(meaning), key, ms, usual))
     } else {
         None
     }
