@@ -25,7 +25,7 @@ def keyings_of(name):
 
 
 def objects_of(name):
-    """The keys of mfrx, each with its ms, and the entries with digits, each with its ms, its keys and whether it has a doubt."""
+    """The keys of mfrx, each with its ms, and the entries that have digits, each with its ms, its keys and any doubt."""
     keys, entries = [], []
     with open(name) as objects:
         for it in map(json.loads, objects):

@@ -10,7 +10,8 @@
 
 enum { HOP = 20, WINDOW = 80, TONES = 6, NONE = -1 };
 enum { LEAST_LEVEL = 500 * 500, TWIST = 16, CLEAR = 2, SHARE = 3, SHARE_OF = 5, STEADY = 20, STEADY_WINDOWS = 32768 };
-enum { GAP_WINDOWS = 8, PART_WINDOWS = 5, KEY_WINDOWS = 8, KP_WINDOWS = 18, TAIL_WINDOWS = 64, TAIL_ROW = 6, TAIL_WEAKER = 3, TAIL_OTHER = 2 };
+enum { GAP_WINDOWS = 8, PART_WINDOWS = 5, KEY_WINDOWS = 8, KP_WINDOWS = 18 };
+enum { TAIL_WINDOWS = 64, TAIL_ROW = 6, TAIL_WEAKER = 3, TAIL_OTHER = 2 };
 
 enum { TAPE = 1420, STRETCH = 200, SPAN = 160, LATER = 40, MOST_OFF = 50 };
 enum { BEFORE = 8, AFTER = 10, STEP = 40, LAST_STEP = 5 };
@@ -108,7 +109,8 @@ static struct sight without_tail(struct sight seen, int64_t at)
     int is_tail = 0, row = 0;
     for (int n = 0; n < TAIL_WINDOWS; n++) {
         const struct sight earlier = before[(at + n) % TAIL_WINDOWS];
-        row = TAIL_WEAKER * strength(seen) < strength(earlier) / (is_same(seen, earlier) ? 1 : TAIL_OTHER) ? row + 1 : 0;
+        const int64_t counted = strength(earlier) / (is_same(seen, earlier) ? 1 : TAIL_OTHER);
+        row = TAIL_WEAKER * strength(seen) < counted ? row + 1 : 0;
         is_tail |= row >= TAIL_ROW;
     }
     before[at % TAIL_WINDOWS] = seen;

@@ -9,8 +9,8 @@ use Rattle.xb_ear.specs.Tails.{without_tail}
 abbrev pub of_digit : ℕ → ℕ → Option Sight
 of_digit digit level = Some (record { pair = mf_pair (Digit digit); low = level; high = level })
 
--- beside 100 of a 1: 300 of the same pair are three times as much, and 600 of another six times; more is a key, of which
--- this is the tail, where six windows in a row held it
+-- beside 100 of a 1: 300 of the same pair are three times as much, and 600 of another six times; where six windows in a
+-- row held more this is a tail
 pub record TailsAreAsWorked : Type 0 where
   pub same_level : without_tail (replicate 64 (of_digit 1 100)) (of_digit 1 100) ≡ of_digit 1 100
   pub same_pair : without_tail (replicate 6 (of_digit 1 300)) (of_digit 1 100) ≡ of_digit 1 100

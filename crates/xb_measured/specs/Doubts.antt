@@ -21,8 +21,8 @@ abbrev pub listed_doubt : Option Doubt → List Doubt
 listed_doubt None = []
 listed_doubt (Some d) = d ∷ []
 
--- where the time before a key of this number is too long a key may be missing; where it is too short for any sender one of
--- the two may be no key
+-- where the time before a key of this number is too long a key may be missing; where it is too short for any sender
+-- one of the two may be no key
 abbrev pub gap_doubts_by : Rhythm → ℕ → ℕ → List Doubt
 gap_doubts_by rhythm key ms =
     if nat_lt (most_gap_ms rhythm) ms then doubt kinds.LongGap effects.Missing key ms rhythm.gap_ms ∷ []

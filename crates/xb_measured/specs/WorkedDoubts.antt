@@ -26,8 +26,8 @@ abbrev pub sounded : ℕ → List (Key × (ℕ × ℕ)) → List Heard
 sounded at [] = []
 sounded at (key ∷ keys) = key_from key.0 (at + key.1.0) key.1.1 ∷ sounded (at + key.1.0 + key.1.1) keys
 
--- a sender of 68 ms on and 68 ms off; one whose gaps are 30 ms; one of 50 ms and 50 ms; one of 90 ms and 90 ms with a KP
--- of 120 ms; and a hand, of 80 to 120 ms and 100 to 150 ms
+-- a sender of 68 ms on and 68 ms off; one whose gaps are 30 ms; one of 50 ms and 50 ms; one of 90 ms and 90 ms with
+-- a KP of 120 ms; and a hand, of 80 to 120 ms and 100 to 150 ms
 abbrev pub steady : List Heard
 steady = sounded 0 ((Kp, (0, 39)) ∷ (Digit 4, (28, 26)) ∷ (Digit 1, (28, 26)) ∷ (Digit 1, (28, 26)) ∷ (St, (28, 26)) ∷ [])
 
