@@ -19,10 +19,12 @@ pub mod Worked
 pub mod Constants
 pub mod Nearest
 pub mod Keyings
+pub mod Rhythms
 pub mod Doubts
 pub mod DoubtLines
 pub mod Entries
 pub mod KeyingConstants
+pub mod WorkedDoubts
 pub mod ButtonBlocks
 pub mod ButtonLines
 pub mod WorkedButtons

@@ -5,6 +5,7 @@ ghost use Rattle.xb_measured.specs.Nearest.{TenthsAreNearest};
 ghost use Rattle.xb_measured.specs.Worked.{LevelsAreAsWorked};
 ghost use Rattle.xb_measured.specs.WorkedVerdicts.{GapsAreAsWorked, LengthsAreAsWorked, TonesAreAsWorked, VerdictsAreAsWorked};
 ghost use Rattle.xb_measured.specs.KeyingConstants.{KeyingsAreBounded};
+ghost use Rattle.xb_measured.specs.WorkedDoubts.{DoubtsAreAsWorked};
 ghost use Rattle.xb_measured.specs.WorkedButtons.{DigitsAreTold, KeysAreNoDigits};
 ghost use Rattle.std.specs.Prelude.{◌≡◌, ◌∷◌, []};
 ghost use Rattle.xb_measured.specs.declared.button_block.TheConstants.{HIGH, LEAST_LEVEL, LOW, SHARE, SHARE_OF, TWIST};
@@ -24,9 +25,14 @@ pub fn tenths_are_nearest()
     ensures { TenthsAreNearest }
 {}
 
-/// The most digits of a keying, and the longest time between its keys that is no doubt, as they are.
+/// The most digits of a keying, and what its rhythm may be off that is no doubt, as they are.
 pub fn keyings_are_bounded()
     ensures { KeyingsAreBounded }
+{}
+
+/// What is doubtful of some keyings, as worked by hand.
+pub fn doubts_are_as_worked()
+    ensures { DoubtsAreAsWorked }
 {}
 
 /// In a block of each of the sixteen digits one sounds.
