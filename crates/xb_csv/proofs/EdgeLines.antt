@@ -58,7 +58,7 @@ named-own (suc wire) i text level (own ∷ rest) name there =
     ]
 
 -- what is said of a wire one after the other
-levels-append :
+pub levels-append :
     (wire : ℕ) (said later : List Event) → levels_of wire (said ++ later) ≡ levels_of wire said ++ levels_of wire later
 levels-append wire [] later = refl
 levels-append wire (events.Ticks scale ∷ said) later = levels-append wire said later

@@ -1,6 +1,6 @@
 -- Pieces of a recording that are counted one after the other.
-use Rattle.std.proofs.Common.{◌≡◌, ℕ, zero, suc, ◌+◌, ◌-◌, ◌^◌, ◌<◌, ◌≤◌, min, replicate, List, [], ◌∷◌, ◌++◌, Bool, true, false, cond, Option, Some, None, length, take, refl, ap, sym, subst, ◌∙◌, append_assoc, add-one, get_or}
-use Rattle.std.specs.Prelude.{option_map, slice_get, IfNone, IfSome, ◌==◌}
+use Rattle.std.proofs.Common.{◌≡◌, ℕ, zero, suc, ◌+◌, ◌-◌, ◌^◌, ◌<◌, ◌≤◌, min, replicate, List, [], ◌∷◌, ◌++◌, Bool, true, false, Option, Some, None, length, take, refl, ap, sym, subst, ◌∙◌, append_assoc, add-one, get_or}
+use Rattle.std.specs.Prelude.{option_map, slice_get, IfNone, IfSome}
 use Rattle.std.specs.Io.KnownBytes.{Consumes, IsAtEnd, prepend_known}
 use Rattle.std.proofs.Math.Seq.{take-suc}
 use Rattle.std.proofs.lemmas.List.{take_all}
@@ -10,6 +10,7 @@ use Rattle.xb_contact.specs.declared.event.Event.{Event}
 use Rattle.xb_contact.specs.declared.event.Event.TheVariants as events
 use Rattle.xb_contact.specs.declared.level.Level.{Level}
 use Rattle.xb_contact.specs.Repeats.{levels_of}
+use Rattle.xb_csv.proofs.EdgeLines.{levels-append}
 use Rattle.xb_recording.specs.declared.reader.Reader.{Reader}
 use Rattle.xb_recording.specs.declared.format.Format.{Format}
 use Rattle.xb_recording.specs.declared.wanted.Wanted.{Wanted}
@@ -27,18 +28,6 @@ use Rattle.xb_samples.specs.Thresholds.{Percent}
 use Rattle.std.specs.declared.vec.Vec.{Vec}
 use Rattle.std.specs.declared.alloc.Global.{Global}
 use Rattle.xb_recording.specs.Beginnings.{form_told}
-
-levels-append :
-    (wire : ℕ) (said later : List Event) → levels_of wire (said ++ later) ≡ levels_of wire said ++ levels_of wire later
-levels-append wire [] later = refl
-levels-append wire (events.Ticks scale ∷ said) later = levels-append wire said later
-levels-append wire (events.At tick ∷ said) later = levels-append wire said later
-levels-append wire (events.Level other level ∷ said) later =
-    let rest : levels_of wire (said ++ later) ≡ levels_of wire said ++ levels_of wire later = levels-append wire said later in
-    elim (other == wire) as (λ t. cond t (level ∷ levels_of wire (said ++ later)) (levels_of wire (said ++ later)) ≡ cond t (level ∷ levels_of wire said) (levels_of wire said) ++ levels_of wire later) [
-      | true ↦ ap (λ l. level ∷ l) rest
-      | false ↦ rest
-    ]
 
 seen-append :
     (each : Bool) (own : Seen) (levels later : List Level)
