@@ -10,7 +10,8 @@ use crate::words::{Request, misfit_of, request_of};
 use std::alloc::{AllocError, Global};
 use std::io::{Read, Write};
 use xb_command::{
-    Answer, Call, DONE, Files, InOneLine, Program, Source, Words, Work, tell_fault, text_source,
+    Answer, Call, DONE, Files, Given, InOneLine, Program, Source, Words, Work, tell_fault,
+    text_source,
 };
 
 // A name in one line.
@@ -51,18 +52,10 @@ impl<'a> Work<'a> for Request<'a> {
         text_source(self.deck)
     }
 
-    fn run<F: Files, R: Read, W: Write, E: Write>(
-        self,
-        alloc: Global,
-        program: &Program<'a>,
-        _files: &F,
-        input: &mut R,
-        out: &mut W,
-        err: &mut E,
-    ) -> u8 {
-        match check_named(alloc, self, input, out) {
+    fn run<F: Files, R: Read, W: Write, E: Write>(self, given: Given<'_, 'a, F, R, W, E>) -> u8 {
+        match check_named(given.alloc, self, given.input, given.out) {
             Ok(()) => DONE,
-            Err(fault) => tell_fault(alloc, err, program.name, fault),
+            Err(fault) => tell_fault(given.alloc, given.err, given.program.name, fault),
         }
     }
 }

@@ -11,8 +11,8 @@ use crate::words::{Options, options_of, request_of};
 use std::alloc::Global;
 use std::io::{Read, Write};
 use xb_command::{
-    Answer, Call, DONE, Files, NOTHING, Program, Source, Words, Work, file_source, tell_fault,
-    text_source,
+    Answer, Call, DONE, Files, Given, NOTHING, Program, Source, Words, Work, file_source,
+    tell_fault, text_source,
 };
 
 // Writes what is asked for of a deck, and returns the status of the process.
@@ -91,29 +91,42 @@ impl<'a, P: Work<'a>> Work<'a> for Asked<'a, P> {
         }
     }
 
-    fn run<F: Files, R: Read, W: Write, E: Write>(
-        self,
-        alloc: Global,
-        program: &Program<'a>,
-        files: &F,
-        input: &mut R,
-        out: &mut W,
-        err: &mut E,
-    ) -> u8 {
+    fn run<F: Files, R: Read, W: Write, E: Write>(self, given: Given<'_, 'a, F, R, W, E>) -> u8 {
         let Asked {
             request,
             recording,
             ..
         } = self;
         let Some(Recording { printer, has_table }) = recording else {
-            return answer(alloc, request, program, input, out, err);
+            return answer(
+                given.alloc,
+                request,
+                given.program,
+                given.input,
+                given.out,
+                given.err,
+            );
         };
-        let mut rows = Vec::new(alloc);
-        let status = printer.run(alloc, program, files, input, &mut rows, err);
+        let mut rows = Vec::new(given.alloc);
+        let status = printer.run(Given {
+            input: given.input,
+            out: &mut rows,
+            err: &mut *given.err,
+            alloc: given.alloc,
+            program: given.program,
+            files: given.files,
+        });
         if status != DONE {
             return status;
         }
         let mut deck = before_rows(has_table).chain(rows.as_slice());
-        answer(alloc, request, program, &mut deck, out, err)
+        answer(
+            given.alloc,
+            request,
+            given.program,
+            &mut deck,
+            given.out,
+            given.err,
+        )
     }
 }

@@ -3,12 +3,12 @@ use Rattle.std.proofs.Common.{◌≡◌, ℕ, zero, suc, List, [], ◌∷◌, fa
 use Rattle.std.specs.Prelude.{slice_get, slice_set}
 use Rattle.std.specs.List.{AllByRecursion}
 use Rattle.std.specs.Option.{option_map_or}
-use Rattle.std.proofs.lemmas.Bool.{eqb-false, ne_eqb}
 use Rattle.xb_contact.specs.declared.level.Level.{Level}
 use Rattle.xb_contact.specs.declared.scale.Scale.{Scale}
 use Rattle.xb_feed.specs.declared.line.Line.{Line}
 use Rattle.xb_feed.specs.Followers.{Follower}
 use Rattle.xb_feed.specs.Watching.{all_held, line_changed, line_edged, wire_changed, wire_edged}
+use Rattle.xb_loop.proofs.WireRows.{set-here, set-there}
 
 abbrev pub numbers_of : {C : Type 0} → List (Line C) → List ℕ
 numbers_of {C} lines = map (λ (line : Line C). line.number) lines
@@ -31,23 +31,6 @@ set-numbers {C} (first ∷ rest) zero watched line at same =
     ap (λ n. n ∷ numbers_of rest) (same ∙ ap (λ (w : Line C). w.number) (sym is))
 set-numbers (first ∷ rest) (suc wire) watched line at same =
     ap (λ numbers. first.number ∷ numbers) (set-numbers rest wire watched line at same)
-
-set-here :
-    {C : Type 0} (lines : List (Line C)) (wire : ℕ) (watched line : Line C) → slice_get lines wire ≡ Some line
-    → slice_get (slice_set lines wire watched) wire ≡ Some watched
-set-here [] wire watched line at = cc
-set-here (first ∷ rest) zero watched line at = refl
-set-here (first ∷ rest) (suc wire) watched line at = set-here rest wire watched line at
-
-set-there :
-    {C : Type 0} (lines : List (Line C)) (other wire : ℕ) (watched : Line C) → (other == wire) ≡ false
-    → slice_get (slice_set lines other watched) wire ≡ slice_get lines wire
-set-there [] other wire watched ne = refl
-set-there (first ∷ rest) zero zero watched ne = cc
-set-there (first ∷ rest) zero (suc wire) watched ne = refl
-set-there (first ∷ rest) (suc other) zero watched ne = refl
-set-there (first ∷ rest) (suc other) (suc wire) watched ne =
-    set-there rest other wire watched (ne_eqb other wire (λ e. eqb-false (suc other) (suc wire) ne (ap suc e)))
 
 module _ {C G : Type 0} (f : Follower C G) where
   pub numbers-held : (tick : ℕ) (lines : List (Line C)) → numbers_of (all_held f tick lines) ≡ numbers_of lines

@@ -137,15 +137,15 @@ numbers-set (first ∷ rest) zero watched line at same =
 numbers-set (first ∷ rest) (suc wire) watched line at same =
     ap (λ numbers. first.number ∷ numbers) (numbers-set rest wire watched line at same)
 
-set-here :
-    (lines : List Watched) (wire : ℕ) (watched line : Watched) → slice_get lines wire ≡ Some line
+pub set-here :
+    {A : Type 0} (lines : List A) (wire : ℕ) (watched line : A) → slice_get lines wire ≡ Some line
     → slice_get (slice_set lines wire watched) wire ≡ Some watched
 set-here [] wire watched line at = cc
 set-here (first ∷ rest) zero watched line at = refl
 set-here (first ∷ rest) (suc wire) watched line at = set-here rest wire watched line at
 
-set-there :
-    (lines : List Watched) (other wire : ℕ) (watched : Watched) → (other == wire) ≡ false
+pub set-there :
+    {A : Type 0} (lines : List A) (other wire : ℕ) (watched : A) → (other == wire) ≡ false
     → slice_get (slice_set lines other watched) wire ≡ slice_get lines wire
 set-there [] other wire watched ne = refl
 set-there (first ∷ rest) zero zero watched ne = cc

@@ -3,7 +3,7 @@ use crate::hear::reports::{CALL, DECK, SHORT};
 use std::alloc::Global;
 use std::test::Fail;
 use test_kit::{
-    Fault, Folder, Halting, Program, Refusal, Short, attended, called, check_faults, check_reads,
+    Fault, Folder, Program, Refusal, Streams, attended, called, check_faults, check_reads,
     check_refusals, check_writes,
 };
 use xb_command::attend;
@@ -19,15 +19,10 @@ impl Program for Mfhear {
         "mfhear"
     }
 
-    fn attend(
-        &self,
-        alloc: Global,
-        words: &[String],
-        reader: &mut Halting<'_>,
-        out: &mut Short,
-        err: &mut Vec<u8>,
-    ) -> u8 {
-        attend::<Asked<'_, Rows<'_>>, _, _, _, _>(alloc, &called(&PROGRAM, words), &FOLDER, reader, out, err)
+    fn attend(&self, alloc: Global, words: &[String], streams: Streams<'_, '_>) -> u8 {
+        let Streams { reader, out, err } = streams;
+        let call = called(&PROGRAM, words);
+        attend::<Asked<'_, Rows<'_>>, _, _, _, _>(alloc, &call, &FOLDER, reader, out, err)
     }
 }
 
