@@ -14,9 +14,7 @@ use crate::told::{first_text, last_text};
 use crate::words::{Asked, asked_of};
 use std::alloc::Global;
 use std::io::{Read, Write};
-use xb_command::{
-    Answer, Call, DONE, Files, Given, Program, Source, Words, Work, file_source, tell_fault,
-};
+use xb_command::{Answer, Call, DONE, Files, Given, Source, Words, Work, file_source, tell_fault};
 use xb_feed::{RecordingFault, Request, listen, missing_name};
 use xb_text::write_whole;
 

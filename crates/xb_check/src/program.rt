@@ -10,8 +10,7 @@ use crate::words::{Request, misfit_of, request_of};
 use std::alloc::{AllocError, Global};
 use std::io::{Read, Write};
 use xb_command::{
-    Answer, Call, DONE, Files, Given, InOneLine, Program, Source, Words, Work, tell_fault,
-    text_source,
+    Answer, Call, DONE, Files, Given, InOneLine, Source, Words, Work, tell_fault, text_source,
 };
 
 // A name in one line.

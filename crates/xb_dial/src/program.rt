@@ -6,9 +6,7 @@ use crate::request::Asked;
 use crate::words::asked_of;
 use std::alloc::Global;
 use std::io::{Read, Write};
-use xb_command::{
-    Answer, Call, DONE, Files, Given, Program, Source, Words, Work, tell_fault, text_source,
-};
+use xb_command::{Answer, Call, DONE, Files, Given, Source, Words, Work, tell_fault, text_source};
 
 impl<'a> Work<'a> for Asked<'a> {
     ghost use Rattle.xb_dial.specs.Program.{by_dial};

@@ -5,7 +5,7 @@ use crate::routing::route;
 use crate::words::{Request, request_of};
 use std::alloc::Global;
 use std::io::{Read, Write};
-use xb_command::{Answer, Call, DONE, Files, Given, Program, Source, Words, Work, tell_fault};
+use xb_command::{Answer, Call, DONE, Files, Given, Source, Words, Work, tell_fault};
 
 impl<'a> Work<'a> for Request<'a> {
     ghost use Rattle.xb_route.specs.Program.{by_route};
