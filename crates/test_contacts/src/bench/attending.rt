@@ -1,9 +1,9 @@
 // The program `mfbench`, and what it prints of a recording.
 use std::alloc::Global;
 use std::test::Fail;
-use test_kit::{Folder, Gives, Program, Streams, called, check_status};
+use test_kit::{Folder, Gives, Program, Streams, check_status};
 use xb_bench::{Asked, PROGRAM};
-use xb_command::attend;
+use xb_command::{Call, attend};
 
 /// The program `mfbench`.
 #[derive(Clone, Copy)]
@@ -16,7 +16,12 @@ impl Program for Mfbench {
 
     fn attend(&self, alloc: Global, words: &[String], streams: Streams<'_, '_>) -> u8 {
         let Streams { reader, out, err } = streams;
-        let call = called(&PROGRAM, words);
+        let call = Call {
+            program: &PROGRAM,
+            words,
+            is_typed: false,
+            is_shown: false,
+        };
         attend::<Asked<'_>, _, _, _, _>(alloc, &call, &Folder(&[]), reader, out, err)
     }
 }

@@ -1,8 +1,8 @@
 // The program `mfloop`, and the tables that there are.
 use std::alloc::Global;
 use std::test::Fail;
-use test_kit::{Fault, Folder, Gives, Program, Streams, called, check_status};
-use xb_command::attend;
+use test_kit::{Fault, Folder, Gives, Program, Streams, check_status};
+use xb_command::{Call, attend};
 use xb_loop::{Asked, PROGRAM};
 
 /// Three route tables: one that is right, one of another release limit, and one that is not TOML.
@@ -23,7 +23,13 @@ impl Program for Mfloop {
 
     fn attend(&self, alloc: Global, words: &[String], streams: Streams<'_, '_>) -> u8 {
         let Streams { reader, out, err } = streams;
-        attend::<Asked<'_>, _, _, _, _>(alloc, &called(&PROGRAM, words), &TABLES, reader, out, err)
+        let call = Call {
+            program: &PROGRAM,
+            words,
+            is_typed: false,
+            is_shown: false,
+        };
+        attend::<Asked<'_>, _, _, _, _>(alloc, &call, &TABLES, reader, out, err)
     }
 }
 

@@ -3,10 +3,10 @@ use std::alloc::{AllocError, Global};
 use std::io::ErrorKind;
 use std::test::Fail;
 use test_kit::{
-    Fault, Folder, Gives, Halting, Page, Program, Refusal, Short, Streams, called, check_faults,
+    Fault, Folder, Gives, Halting, Page, Program, Refusal, Short, Streams, check_faults,
     check_pages, check_reads, check_refusals, check_streams, words_of,
 };
-use xb_command::{Pipe, READER_GONE, attend};
+use xb_command::{Call, Pipe, READER_GONE, attend};
 use xb_dial::{Asked, PROGRAM};
 
 // The program `mfdial`.
@@ -20,7 +20,13 @@ impl Program for Mfdial {
 
     fn attend(&self, alloc: Global, words: &[String], streams: Streams<'_, '_>) -> u8 {
         let Streams { reader, out, err } = streams;
-        attend::<Asked<'_>, _, _, _, _>(alloc, &called(&PROGRAM, words), &FILES, reader, out, err)
+        let call = Call {
+            program: &PROGRAM,
+            words,
+            is_typed: false,
+            is_shown: false,
+        };
+        attend::<Asked<'_>, _, _, _, _>(alloc, &call, &FILES, reader, out, err)
     }
 }
 
@@ -318,7 +324,12 @@ fn told_where_rows_fail(alloc: Global, kind: ErrorKind) -> Result<(u8, Vec<u8>),
     let mut out = pipe.output(Short::new(alloc, 20, Some(kind)));
     let status = attend::<Asked<'_>, _, _, _, _>(
         alloc,
-        &called(&PROGRAM, &words),
+        &Call {
+            program: &PROGRAM,
+            words: &words,
+            is_typed: false,
+            is_shown: false,
+        },
         &FILES,
         &mut calls,
         &mut out,

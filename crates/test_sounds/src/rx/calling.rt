@@ -1,8 +1,8 @@
 // The program, called by words, and the files that these name.
 use crate::rx::statuses::FILE;
 use std::alloc::Global;
-use test_kit::{Folder, Program, Streams, called};
-use xb_command::attend;
+use test_kit::{Folder, Program, Streams};
+use xb_command::{Call, attend};
 use xb_rx::{Asked, PROGRAM};
 
 // Two keyings, of which the tests sound other ones.
@@ -30,6 +30,12 @@ impl Program for Mfrx {
 
     fn attend(&self, alloc: Global, words: &[String], streams: Streams<'_, '_>) -> u8 {
         let Streams { reader, out, err } = streams;
-        attend::<Asked<'_>, _, _, _, _>(alloc, &called(&PROGRAM, words), &FOLDER, reader, out, err)
+        let call = Call {
+            program: &PROGRAM,
+            words,
+            is_typed: false,
+            is_shown: false,
+        };
+        attend::<Asked<'_>, _, _, _, _>(alloc, &call, &FOLDER, reader, out, err)
     }
 }
