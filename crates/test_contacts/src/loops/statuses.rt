@@ -3,9 +3,9 @@ use crate::loops::attending::{Mfloop, TABLES};
 use std::io::ErrorKind;
 use std::test::Fail;
 use test_kit::{
-    Case, Gives, Halting, Short, called, check_cases, check_status, check_writes, run, words_of,
+    Case, Gives, Halting, Short, check_cases, check_status, check_writes, run, words_of,
 };
-use xb_command::attend;
+use xb_command::{Call, attend};
 use xb_loop::{Asked, PROGRAM};
 
 const WORDS: &[&str] = &["--wire", "7=1"];
@@ -87,9 +87,15 @@ fn fails_where_the_bounces_are_not_told(rt: HostRuntime) -> Result<(), Fail> {
         let mut reader = RECORDING;
         let mut out = Vec::new(rt.alloc());
         let mut err = Short::new(rt.alloc(), room, Some(ErrorKind::Other));
+        let call = Call {
+            program: &PROGRAM,
+            words: &words,
+            is_typed: false,
+            is_shown: false,
+        };
         let status = attend::<Asked<'_>, _, _, _, _>(
             rt.alloc(),
-            &called(&PROGRAM, &words),
+            &call,
             &TABLES,
             &mut reader,
             &mut out,
