@@ -1,6 +1,7 @@
 // Why a dial is not told of, or not further.
 use thiserror::Error;
-use xb_feed::{InOneLine, RecordingFault};
+use xb_command::InOneLine;
+use xb_feed::RecordingFault;
 
 /// Why nothing is told of a recording, or nothing further. What was written before stands.
 #[derive(Debug, Drop, Error)]

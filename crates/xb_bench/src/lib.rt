@@ -30,7 +30,6 @@ mod words;
 pub use bench::Bench;
 pub use drawn::DrawnBench;
 pub use fault::BenchFault;
-pub use program::attend;
 pub use setting::{Form, Setting};
 pub use told::What;
 pub use words::{Asked, PROGRAM};

@@ -1,6 +1,6 @@
 // Why a text gives no calls.
 
-use crate::told::ToldField;
+use crate::told_field::ToldField;
 use crate::wrong_byte::WrongByte;
 use thiserror::Error;
 use xb_model::RowFault;

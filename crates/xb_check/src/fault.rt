@@ -9,10 +9,10 @@ pub enum CheckFault {
     #[error("the deck could not be read")]
     Read,
     /// The deck has more than 16,777,216 bytes, and is not looked at.
-    #[error("the deck is longer than 16777216 bytes; mfsplit makes parts of it")]
+    #[error("the deck is longer than 16777216 bytes; mfoffice split makes parts of it")]
     TooLong,
     /// The deck has more than 1,000,000 records, by which `mfbank` refuses it. What was found was told.
-    #[error("loop rows: more than 1000000 records; mfsplit makes parts of the deck")]
+    #[error("loop rows: more than 1000000 records; mfoffice split makes parts of the deck")]
     TooMany,
     /// `mfbank` refuses the deck by this other fault, the first of it. What was found was told.
     #[error("{0}")]

@@ -1,20 +1,15 @@
 // The program: its words and a deck in, a status and what is wrong with the deck out.
-ghost use Rattle.std.specs.Prelude.{◌≡◌, true};
-ghost use Rattle.clap.specs.Faults.{is_simple_and_free};
-ghost use Rattle.xb_command.specs.Programs.{streams};
-ghost use Rattle.xb_command.specs.Tables.{command_by};
-ghost use Rattle.xb_command.specs.Works.{AttendsBy};
 ghost use Rattle.xb_check.specs.Named.{Reports};
 ghost use Rattle.xb_check.specs.Program.{by_check};
 
 use crate::checking::check;
 use crate::fault::CheckFault;
-use crate::name::in_one_line;
+use crate::file_name::in_one_line;
 use crate::words::{Request, misfit_of, request_of};
 use std::alloc::Global;
 use std::io::{Read, Write};
 use xb_command::{
-    Answer, Call, DONE, Files, Program, Source, Work, ask_words, tell_fault, text_source,
+    Answer, Call, DONE, Files, Program, Source, Words, Work, tell_fault, text_source,
 };
 
 // Checks the deck that is asked for, under the name that is told of it.
@@ -37,14 +32,10 @@ impl<'a> Work<'a> for Request<'a> {
 
     ghost rules = { by_check };
 
-    fn ask(alloc: Global, call: &Call<'a>) -> Result<Request<'a>, Answer<'a>> {
-        let words = match ask_words(alloc, call) {
-            Ok(words) => words,
-            Err(answer) => return Err(answer),
-        };
-        match misfit_of(&words) {
+    fn ask(_alloc: Global, _call: &Call<'a>, words: &Words<'a>) -> Result<Request<'a>, Answer<'a>> {
+        match misfit_of(words) {
             Some(misfit) => Err(Answer::Unfit(misfit)),
-            None => Ok(request_of(&words)),
+            None => Ok(request_of(words)),
         }
     }
 
@@ -66,22 +57,4 @@ impl<'a> Work<'a> for Request<'a> {
             Err(fault) => tell_fault(alloc, err, program.name, fault),
         }
     }
-}
-
-/// Reads the words of the command line, and by them writes what is wrong with a deck, as `check` does. It returns the
-/// status of the process, as `attend` of `xb_command` says.
-pub fn attend<F: Files, R: Read, W: Write, E: Write>(
-    alloc: Global,
-    call: &Call<'_>,
-    files: &F,
-    input: &mut R,
-    out: &mut W,
-    err: &mut E,
-) -> u8
-    requires { is_simple_and_free (command_by call.now.program.now) ≡ true }
-    ensures { AttendsBy by_check call.now (F.bytes files.now)
-        (streams (R.remaining input.old) (W.contents out.old) (E.contents err.old))
-        (streams (R.remaining input.new) (W.contents out.new) (E.contents err.new)) result }
-{
-    xb_command::attend::<Request<'_>, F, R, W, E>(alloc, call, files, input, out, err)
 }

@@ -1,13 +1,15 @@
 // A program by its table: its words, its files and its streams in, a status out.
 ghost use Rattle.std.specs.Prelude.{◌≡◌, true, IfErr, IfOk};
 ghost use Rattle.clap.specs.Faults.{is_simple_and_free};
+ghost use Rattle.xb_command.specs.Answers.{Takes};
 ghost use Rattle.xb_command.specs.Programs.{streams};
 ghost use Rattle.xb_command.specs.Tables.{command_by};
 ghost use Rattle.xb_command.specs.Works.{AttendsBy, IsWrong, PerformsBy, Runs, file_source, text_source};
 
 use crate::answering::tell_answer;
-use crate::asking::Answer;
+use crate::asking::{Answer, ask_words};
 use crate::opening::{open_file, open_text};
+use crate::reading::Words;
 use crate::system::Files;
 use crate::table::{Call, Program};
 use crate::telling::tell_fault;
@@ -52,9 +54,9 @@ pub trait Work<'a>: Sized + Drop {
     // which words ask for it, what it reads, and what holds of its streams where it was done, and where it failed
     ghost rules: { Rules Self };
 
-    /// What the words of a call ask for, or why they choose nothing.
-    fn ask(alloc: Global, call: &Call<'a>) -> Result<Self, Answer<'a>>
-        requires { is_simple_and_free (command_by call.now.program.now) ≡ true }
+    /// What the words of a call ask for, which clap took; or which of their values is none, or that memory ran out.
+    fn ask(alloc: Global, call: &Call<'a>, words: &Words<'a>) -> Result<Self, Answer<'a>>
+        requires { Takes call.now words.now }
         ensures asks { IfOk result (rules.Asks call.now) }
         ensures wrong { IfErr result (IsWrong rules.Misfits call.now) };
 
@@ -76,6 +78,18 @@ pub trait Work<'a>: Sized + Drop {
             (rules.Fails self program.now (F.bytes files.now))
             (streams (R.remaining input.old) (W.contents out.old) (E.contents err.old))
             (streams (R.remaining input.new) (W.contents out.new) (E.contents err.new)) result };
+}
+
+// What the words of a call ask for, or why they choose nothing.
+fn asked<'a, Q: Work<'a>>(alloc: Global, call: &Call<'a>) -> Result<Q, Answer<'a>>
+    requires { is_simple_and_free (command_by call.now.program.now) ≡ true }
+    ensures asks { IfOk result (Q.rules.Asks call.now) }
+    ensures wrong { IfErr result (IsWrong Q.rules.Misfits call.now) }
+{
+    match ask_words(alloc, call) {
+        Ok(words) => Q::ask(alloc, call, &words),
+        Err(answer) => Err(answer),
+    }
 }
 
 // Opens what is read, and does what is asked for with it.
@@ -125,7 +139,7 @@ pub fn attend<'a, Q: Work<'a>, F: Files, R: Read, W: Write, E: Write>(
         (streams (R.remaining input.old) (W.contents out.old) (E.contents err.old))
         (streams (R.remaining input.new) (W.contents out.new) (E.contents err.new)) result }
 {
-    match Q::ask(alloc, call) {
+    match asked::<Q>(alloc, call) {
         Ok(request) => perform(alloc, request, call.program, files, input, out, err),
         Err(answer) => tell_answer(alloc, out, err, call.program, answer),
     }

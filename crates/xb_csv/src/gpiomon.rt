@@ -49,7 +49,7 @@ fn gap_in(text: &[u8]) -> Option<usize>
 
 /// The first word of a text, and what follows it. Words are parted by spaces and tabs.
 #[tactic(auto, unfolding(crate::specs::Gpiomons::first_word))]
-pub fn first_word(text: &[u8]) -> (&[u8], &[u8])
+pub(crate) fn first_word(text: &[u8]) -> (&[u8], &[u8])
     ensures word { result.0.now ≡ (first_word text.now).0 }
     ensures rest { result.1.now ≡ (first_word text.now).1 }
 {

@@ -1,7 +1,7 @@
 // Why no rows are printed.
 ghost use Rattle.std.specs.Prelude.{◌≡◌};
 
-use crate::TraceFault;
+use crate::trace_fault::TraceFault;
 use std::alloc::AllocError;
 use thiserror::Error;
 use xb_calls::{CallFault, SpeedFault};

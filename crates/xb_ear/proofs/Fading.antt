@@ -5,7 +5,7 @@ use Rattle.std.specs.List.{range_with_len}
 use Rattle.std.proofs.lemmas.Bool.{cases_lt, false≢true, le-ltb, leb-true, lt-leb, lt-ltb}
 use Rattle.xb_model.specs.declared.key.Tone.{Tone as Pair}
 use Rattle.xb_ear.specs.declared.sight.Sight.{Sight}
-use Rattle.xb_ear.specs.declared.tails.TheConstants.{TAIL_ROW, TAIL_WEAKER, TAIL_WINDOWS}
+use Rattle.xb_ear.specs.declared.echo_tails.TheConstants.{TAIL_ROW, TAIL_WEAKER, TAIL_WINDOWS}
 use Rattle.xb_ear.specs.Ears.{held, held_before, sight_at, windows_in}
 use Rattle.xb_ear.specs.LongRuns.{label}
 use Rattle.xb_ear.specs.Tails.{is_tail, outdone_from, strength, without_tail}

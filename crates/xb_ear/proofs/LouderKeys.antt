@@ -22,7 +22,7 @@ use Rattle.xb_sound.proofs.KeyWaves.{each_digit}
 use Rattle.xb_sound.proofs.Places.{pair_sample-turns}
 use Rattle.xb_sound.proofs.SineTables.{holds_below}
 use Rattle.xb_ear.specs.declared.levels.Levels.{Levels}
-use Rattle.xb_ear.specs.declared.steady.TheConstants.{STEADY_WINDOWS}
+use Rattle.xb_ear.specs.declared.hum.TheConstants.{STEADY_WINDOWS}
 use Rattle.xb_ear.specs.Beside.{AreHeardBesideLouderSines, HoldsLittleOf, IsBeside, IsBorne, IsSineOf, LiesBeside, LouderSinesAreBorne, mixed}
 use Rattle.xb_ear.specs.Disturbed.{IsNear, bounded}
 use Rattle.xb_ear.specs.Ears.{least_before, window, windows_in}

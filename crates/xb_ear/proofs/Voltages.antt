@@ -12,7 +12,7 @@ use Rattle.xb_sound.specs.Sines.{sine_table}
 use Rattle.xb_ear.specs.declared.levels.Levels.{Levels}
 use Rattle.xb_ear.specs.declared.sight.Sight.{Sight}
 use Rattle.xb_ear.specs.declared.hearing.Heard.{Heard}
-use Rattle.xb_ear.specs.declared.tails.TheConstants.{TAIL_WINDOWS}
+use Rattle.xb_ear.specs.declared.echo_tails.TheConstants.{TAIL_WINDOWS}
 use Rattle.xb_ear.specs.Ears.{held, held_before, least_before, seen_at, sight_at, sights, window, windows_in}
 use Rattle.xb_ear.specs.Hearings.{hearer, listed}
 use Rattle.xb_ear.specs.Levels.{correlated, cosine_of, level, levels_of, part, power, sine_of, squares, total}

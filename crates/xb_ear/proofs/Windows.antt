@@ -7,7 +7,7 @@ use Rattle.std.proofs.lemmas.List.{drop-append-le, take-append-le, take_all, dro
 use Rattle.std.proofs.lemmas.List.FromFn.{map-range_with_len_more}
 use Rattle.xb_model.specs.Image.{Machine, image_from}
 use Rattle.xb_ear.specs.declared.sight.Sight.{Sight}
-use Rattle.xb_ear.specs.declared.tails.TheConstants.{TAIL_WINDOWS}
+use Rattle.xb_ear.specs.declared.echo_tails.TheConstants.{TAIL_WINDOWS}
 use Rattle.xb_ear.specs.Pairs.{seen}
 use Rattle.xb_ear.specs.Levels.{levels_of}
 use Rattle.xb_ear.specs.Steady.{beside, lessened}
@@ -82,10 +82,6 @@ pub sights-early : (xs ys : List ℤ) → map (seen_at (xs ++ ys)) (range_with_l
 sights-early xs ys =
     map-agrees (seen_at (xs ++ ys)) (seen_at xs) 0 (windows_in (length xs))
     (λ w below. seen-early xs ys w (omega (arith, below)))
-
--- how many samples wait for the next window
-pub waiting : (xs : List ℤ) (r : ℕ) → length (recent_of xs) ≡ r → r < 80 → 20 * windows_in (length xs) ≤ length xs
-waiting xs r is below = omega arith
 
 pub count-same : (n : ℕ) → n + 1 < 20 * windows_in n + 80 → windows_in (n + 1) ≡ windows_in n
 count-same n few = omega arith

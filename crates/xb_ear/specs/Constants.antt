@@ -2,8 +2,8 @@
 use Rattle.std.specs.Prelude.{◌≡◌}
 use Rattle.xb_ear.specs.declared.hearing.TheConstants.{GAP_WINDOWS, KEY_WINDOWS, KP_WINDOWS, PART_WINDOWS}
 use Rattle.xb_ear.specs.declared.sight.TheConstants.{CLEAR, LEAST_LEVEL, SHARE, SHARE_OF, STEADY, TWIST}
-use Rattle.xb_ear.specs.declared.steady.TheConstants.{STEADY_WINDOWS}
-use Rattle.xb_ear.specs.declared.tails.TheConstants.{TAIL_ROW, TAIL_WEAKER, TAIL_WINDOWS}
+use Rattle.xb_ear.specs.declared.hum.TheConstants.{STEADY_WINDOWS}
+use Rattle.xb_ear.specs.declared.echo_tails.TheConstants.{TAIL_ROW, TAIL_WEAKER, TAIL_WINDOWS}
 
 -- a definition that cites a constant means this number
 pub record AreConstants : Type 0 where

@@ -1,7 +1,7 @@
 -- What lies beside the six frequencies: hum and other steady noise is there in the gaps too.
 use Rattle.std.specs.Prelude.{ℕ, ◌+◌, ◌-◌, ◌/◌, ◌==◌, if◌then◌else◌, max, min}
 use Rattle.xb_ear.specs.declared.levels.Levels.{Levels}
-use Rattle.xb_ear.specs.declared.steady.TheConstants.{STEADY_WINDOWS}
+use Rattle.xb_ear.specs.declared.hum.TheConstants.{STEADY_WINDOWS}
 use Rattle.xb_ear.specs.Pairs.{all_levels}
 
 -- the power of a window beside the six

@@ -2,7 +2,7 @@
 -- pair there again.
 use Rattle.std.specs.Prelude.{ℕ, ◌+◌, ◌*◌, List, [], ◌∷◌, Bool, false, ◌||◌, if◌then◌else◌, nat_le, nat_lt, Option, Some, None}
 use Rattle.xb_ear.specs.declared.sight.Sight.{Sight}
-use Rattle.xb_ear.specs.declared.tails.TheConstants.{TAIL_ROW, TAIL_WEAKER}
+use Rattle.xb_ear.specs.declared.echo_tails.TheConstants.{TAIL_ROW, TAIL_WEAKER}
 
 -- what both tones hold that a window sees
 abbrev pub strength : Option Sight → ℕ

@@ -27,21 +27,18 @@
 #![tactic(auto)]
 
 mod correlation;
+mod ear_parts;
+mod echo_tails;
 mod hearing;
+mod hum;
 pub mod laws;
 mod levels;
-mod plain;
 mod receiver;
 mod sight;
-mod steady;
-mod tails;
-mod waves;
 
 pub use correlation::squares;
-pub use hearing::{GAP_WINDOWS, Heard, Hearing, KEY_WINDOWS, KP_WINDOWS, PART_WINDOWS};
-pub use levels::{Levels, levels_of};
-pub use plain::PlainEar;
+pub use ear_parts::PlainEar;
+pub use echo_tails::TAIL_WINDOWS;
+pub use hearing::{Heard, Hearing};
 pub use receiver::Receiver;
-pub use sight::{CLEAR, LEAST_LEVEL, SHARE, SHARE_OF, STEADY, Sight, TWIST, seen};
-pub use steady::STEADY_WINDOWS;
-pub use tails::{TAIL_ROW, TAIL_WEAKER, TAIL_WINDOWS};
+pub use sight::Sight;

@@ -1,12 +1,12 @@
 // A receiver, which takes one sample at a time.
 ghost use Rattle.std.specs.Prelude.{◌≡◌, take, drop};
 
+use crate::ear_parts::PlainEar;
+use crate::echo_tails::{TAIL_WINDOWS, moved_on, strength, without_tail};
 use crate::hearing::{Heard, Hearing, hear, silent};
+use crate::hum::{beside, lessened};
 use crate::levels::levels_of;
-use crate::plain::PlainEar;
 use crate::sight::seen;
-use crate::steady::{beside, lessened};
-use crate::tails::{TAIL_WINDOWS, moved_on, strength, without_tail};
 use std::marker::Model;
 
 // How many samples a window has, and how many the next one begins later.

@@ -2,6 +2,7 @@ pub mod Constants
 pub mod Followers
 pub mod Watching
 pub mod Watches
+pub mod Reading
 pub mod Beginnings
 pub mod Faults
 pub mod LackedWires

@@ -2,6 +2,7 @@
 ghost use Rattle.std.specs.Prelude.{◌≡◌, map, option_map};
 ghost use Rattle.xb_feed.specs.LackedWires.{missing_in, missing_name, missing_wire};
 
+use crate::reading::Unread;
 use std::alloc::AllocError;
 use thiserror::Error;
 use xb_contact::Refusal;
@@ -25,9 +26,9 @@ pub enum RecordingFault {
     /// It ends before the wire of this line has a level.
     #[error("the wire of line {0} has no level in the recording")]
     NoLevel(u16),
-    /// A read failed, an interrupted one too.
+    /// A read failed, an interrupted one too, or the recording had not ended after 2^64 - 1 reads.
     #[error("the recording could not be read")]
-    Read,
+    Read(Unread),
     /// A write or the flush failed, or a write took no byte.
     #[error("the rows could not be written")]
     Write,
@@ -56,7 +57,7 @@ fn missing_wire(fault: &RecordingFault) -> Option<usize>
         | RecordingFault::Beginning(refusal)
         | RecordingFault::End(refusal) => missing_in(*refusal),
         RecordingFault::NoLevel(_)
-        | RecordingFault::Read
+        | RecordingFault::Read(_)
         | RecordingFault::Write
         | RecordingFault::NoMemory => None,
     }
@@ -79,6 +80,16 @@ impl From<AllocError> for RecordingFault {
 
     fn from(_error: AllocError) -> RecordingFault {
         RecordingFault::NoMemory
+    }
+}
+
+impl From<Unread> for RecordingFault {
+    ghost use Rattle.xb_feed.specs.declared.fault.RecordingFault.TheVariants.{Read};
+
+    ghost from_gives = { λ unread e. e ≡ Read unread };
+
+    fn from(unread: Unread) -> RecordingFault {
+        RecordingFault::Read(unread)
     }
 }
 

@@ -1,9 +1,4 @@
 // The program: its words and a deck in, a status and a report out.
-ghost use Rattle.std.specs.Prelude.{◌≡◌, true};
-ghost use Rattle.clap.specs.Faults.{is_simple_and_free};
-ghost use Rattle.xb_command.specs.Programs.{streams};
-ghost use Rattle.xb_command.specs.Tables.{command_by};
-ghost use Rattle.xb_command.specs.Works.{AttendsBy};
 ghost use Rattle.xb_hear.specs.Program.{by_hear};
 
 use crate::deck_report::hear;
@@ -12,7 +7,7 @@ use crate::words::{asked_by, options_of};
 use std::alloc::Global;
 use std::io::{Read, Write};
 use xb_command::{
-    Answer, Call, DONE, Files, NOTHING, Program, Source, Work, ask_words, tell_fault, text_source,
+    Answer, Call, DONE, Files, NOTHING, Program, Source, Words, Work, tell_fault, text_source,
 };
 
 impl<'a> Work<'a> for Asked<'a> {
@@ -20,12 +15,8 @@ impl<'a> Work<'a> for Asked<'a> {
 
     ghost rules = { by_hear };
 
-    fn ask(alloc: Global, call: &Call<'a>) -> Result<Asked<'a>, Answer<'a>> {
-        let words = match ask_words(alloc, call) {
-            Ok(words) => words,
-            Err(answer) => return Err(answer),
-        };
-        match asked_by(options_of(&words)) {
+    fn ask(_alloc: Global, _call: &Call<'a>, words: &Words<'a>) -> Result<Asked<'a>, Answer<'a>> {
+        match asked_by(options_of(words)) {
             Some(asked) => Ok(asked),
             None => Err(Answer::Unfit(NOTHING)),
         }
@@ -49,22 +40,4 @@ impl<'a> Work<'a> for Asked<'a> {
             Err(fault) => tell_fault(alloc, err, program.name, fault),
         }
     }
-}
-
-/// Reads the words of the command line, and by them writes what was heard of a deck's lines, as a text, as a page or as
-/// JSON, or draws a line, as `hear` does. It returns the status of the process, as `attend` of `xb_command` says.
-pub fn attend<F: Files, R: Read, W: Write, E: Write>(
-    alloc: Global,
-    call: &Call<'_>,
-    files: &F,
-    input: &mut R,
-    out: &mut W,
-    err: &mut E,
-) -> u8
-    requires { is_simple_and_free (command_by call.now.program.now) ≡ true }
-    ensures { AttendsBy by_hear call.now (F.bytes files.now)
-        (streams (R.remaining input.old) (W.contents out.old) (E.contents err.old))
-        (streams (R.remaining input.new) (W.contents out.new) (E.contents err.new)) result }
-{
-    xb_command::attend::<Asked<'_>, F, R, W, E>(alloc, call, files, input, out, err)
 }

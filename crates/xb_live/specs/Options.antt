@@ -12,8 +12,8 @@ use Rattle.xb_command.specs.declared.table.Call.{Call}
 use Rattle.xb_model.specs.declared.line.TheConstants.{LINES}
 use Rattle.xb_sound.specs.declared.cadence.Cadence.{Cadence}
 use Rattle.xb_sound.specs.Cadences.{standard_cadence}
-use Rattle.xb_live.specs.declared.printing.EntryForm.{EntryForm}
-use Rattle.xb_live.specs.declared.printing.EntryForm.TheVariants as form
+use Rattle.xb_live.specs.declared.entry_text.EntryForm.{EntryForm}
+use Rattle.xb_live.specs.declared.entry_text.EntryForm.TheVariants as form
 use Rattle.xb_live.specs.declared.request.Asked.{Asked}
 use Rattle.xb_live.specs.declared.request.Request.{Request}
 use Rattle.xb_live.specs.declared.request.Request.TheVariants as request

@@ -2,7 +2,7 @@
 ghost use Rattle.std.specs.Prelude.{◌≡◌, IfErr, IfOk};
 ghost use Rattle.xb_live.specs.Options.{AskNothing, Say, SayAsked, asks_entries, cadence_of, form_of, form_with_events, goes_with_sound, line_of, objects_since, request_of, start_of, time_of};
 
-use crate::printing::EntryForm;
+use crate::entry_text::EntryForm;
 use crate::request::{Asked, Request};
 use jiff_core::Timestamp;
 use xb_clock::{Since, no_time, since_of};

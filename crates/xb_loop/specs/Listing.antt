@@ -99,14 +99,14 @@ BeginsUntold beginning is_end fault = ⊥
 -- a read failed, or memory ran out
 abbrev pub IsFromOutside : ListFault → Type 0
 IsFromOutside (faults.Untold reason) = ⊥
-IsFromOutside faults.Read = Unit {0}
+IsFromOutside (faults.Read unread) = Unit {0}
 IsFromOutside faults.NoMemory = Unit {0}
 
 -- why the wires of a recording are not listed: no form is asked for, the recording tells none, and why; or a read
 -- failed, or memory ran out
 abbrev pub IsUnlisted : Option Format → List ℕ → ListFault → Type 0
 IsUnlisted asked text (faults.Untold reason) = (asked ≡ None) × (reason ≡ why_untold text) × TellsNoForm text
-IsUnlisted asked text faults.Read = Unit {0}
+IsUnlisted asked text (faults.Read unread) = Unit {0}
 IsUnlisted asked text faults.NoMemory = Unit {0}
 
 -- the wires of a recording: the names that its beginning tells, of 131,072 bytes or all of it, and their edges, if these

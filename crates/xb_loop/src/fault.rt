@@ -6,7 +6,8 @@ use crate::{ListFault, Listing};
 use std::alloc::AllocError;
 use std::io;
 use thiserror::Error;
-use xb_feed::{InOneLine, RecordingFault};
+use xb_command::InOneLine;
+use xb_feed::RecordingFault;
 use xb_routes::RouteFault;
 
 /// Why the program writes no deck, or no further rows of it.

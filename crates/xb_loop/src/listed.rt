@@ -3,6 +3,7 @@ ghost use Rattle.std.specs.Prelude.{◌≡◌, ◌++◌, IfOk, OnOk, map, option
 ghost use Rattle.xb_loop.specs.WireLines.{edges_text, in_one_line, lines_from, listing_text, sign_text, wire_line};
 
 use crate::Listing;
+use crate::listing::lent;
 use crate::wires::edges_at;
 use std::alloc::{AllocError, Global};
 
@@ -51,17 +52,6 @@ fn push_wires(text: &mut String, names: &[&str], edges: &Option<Vec<u64>>) -> Re
         push_wire(text, name, edges_at(edges, wire))?;
     }
     Ok(())
-}
-
-// Names as texts that are lent.
-fn lent<'b>(alloc: Global, names: &'b [String]) -> Result<Vec<&'b str>, AllocError>
-    ensures { IfOk result (λ lent. map (λ name. name.now) lent.items ≡ map string_bytes names.now) }
-{
-    let mut lent = Vec::new(alloc);
-    for name in names {
-        lent.push(name.as_str())?;
-    }
-    Ok(lent)
 }
 
 /// The wires of a recording, a line each: the name in one line, and after a tab how many edges it has, where these were

@@ -1,5 +1,5 @@
 // The wires of a recording, with how many edges each has.
-ghost use Rattle.std.specs.Prelude.{◌≡◌, ◌<◌, ◌≤◌, ◌++◌, ◌∷◌, [], ℕ, None, Ok, Some, IfErr, IfNone, IfOk, IfSome, List, OnOk, false, length, map, string_bytes, take, true};
+ghost use Rattle.std.specs.Prelude.{◌≡◌, ◌≤◌, ◌++◌, ◌∷◌, [], ℕ, None, Some, IfErr, IfNone, IfOk, IfSome, List, OnOk, false, length, map, string_bytes, true};
 ghost use Rattle.std.specs.Io.KnownBytes.{Consumes, IsAtEnd, prepend_known};
 ghost use Rattle.xb_recording.specs.Beginnings.{form_told};
 ghost use Rattle.xb_recording.specs.Says.{is_text};
@@ -12,6 +12,7 @@ use std::alloc::{AllocError, Global};
 use std::io::Read;
 use thiserror::Error;
 use xb_contact::{Event, Refusal};
+use xb_feed::{Reads, Unread, read_once};
 use xb_recording::{Format, Reader, Told, Wanted, told_format, why_untold};
 use xb_samples::Threshold;
 
@@ -36,9 +37,9 @@ pub enum ListFault {
     /// Its form is told by nothing, or it is a file of several.
     #[error("the recording: {0}")]
     Untold(Refusal),
-    /// A read failed, an interrupted one too.
+    /// A read failed, an interrupted one too, or the recording had not ended after 2^64 - 1 reads.
     #[error("the recording could not be read")]
-    Read,
+    Read(Unread),
     /// Memory ran out.
     #[error("out of memory")]
     NoMemory,
@@ -54,17 +55,13 @@ impl From<AllocError> for ListFault {
     }
 }
 
-// A read that failed.
-#[derive(Clone, Copy)]
-struct ReadFailed;
-
-impl From<ReadFailed> for ListFault {
+impl From<Unread> for ListFault {
     ghost use Rattle.xb_loop.specs.declared.listing.ListFault.TheVariants.{Read};
 
-    ghost from_gives = { λ _ e. e ≡ Read };
+    ghost from_gives = { λ unread e. e ≡ Read unread };
 
-    fn from(_failed: ReadFailed) -> ListFault {
-        ListFault::Read
+    fn from(unread: Unread) -> ListFault {
+        ListFault::Read(unread)
     }
 }
 
@@ -74,7 +71,7 @@ enum CountFault {
     // It is refused.
     Refused(Refusal),
     // A read failed.
-    Read,
+    Read(Unread),
     // Memory ran out.
     NoMemory,
 }
@@ -99,26 +96,13 @@ impl From<Refusal> for CountFault {
     }
 }
 
-impl From<ReadFailed> for CountFault {
+impl From<Unread> for CountFault {
     ghost use Rattle.xb_loop.specs.declared.listing.CountFault.TheVariants.{Read};
 
-    ghost from_gives = { λ _ e. e ≡ Read };
+    ghost from_gives = { λ unread e. e ≡ Read unread };
 
-    fn from(_failed: ReadFailed) -> CountFault {
-        CountFault::Read
-    }
-}
-
-// Reads once.
-fn read_once<R: Read>(input: &mut R, buffer: &mut [u8]) -> Result<usize, ReadFailed>
-    ensures within { IfOk result (λ n. n ≤ length buffer.old) }
-    ensures bytes { IfOk result (λ n.
-        Consumes (R.remaining input.old) (R.remaining input.new) (take n buffer.new)) }
-    ensures end { result ≡ Ok 0 → 0 < length buffer.old → IsAtEnd (R.remaining input.new) }
-{
-    match input.read(buffer) {
-        Ok(n) => Ok(n),
-        Err(_) => Err(ReadFailed),
+    fn from(unread: Unread) -> CountFault {
+        CountFault::Read(unread)
     }
 }
 
@@ -216,14 +200,14 @@ impl<'a> Counter<'a> {
         ensures end { OnOk result (IsAtEnd (R.remaining input.new)) }
     {
         let mut buffer = [0u8; BUFFER_BYTES];
-        for _ in 0..u64::MAX {
-            let n = read_once(input, &mut buffer)?;
+        let mut reads = Reads::new();
+        'pieces: loop {
+            let n = reads.read_once(input, &mut buffer)?;
             if n == 0 {
                 return Ok(());
             }
             self.take(&buffer[..n])?;
         }
-        Err(CountFault::Read)
     }
 
     // The end of the recording.
@@ -288,8 +272,8 @@ fn count<R: Read>(
     Ok(edges_of(alloc, &counter.counts)?)
 }
 
-// Names as texts that are lent.
-fn lent<'b>(alloc: Global, names: &'b [String]) -> Result<Vec<&'b str>, AllocError>
+/// Names as texts that are lent.
+pub(crate) fn lent<'b>(alloc: Global, names: &'b [String]) -> Result<Vec<&'b str>, AllocError>
     ensures { IfOk result (λ lent. map (λ name. name.now) lent.items ≡ map string_bytes names.now) }
 {
     let mut lent = Vec::new(alloc);
@@ -325,7 +309,7 @@ fn edges_named<R: Read>(
             Err(ListFault::NoMemory)
         }
         Err(CountFault::Refused(_)) => Ok(None),
-        Err(CountFault::Read) => Err(ListFault::Read),
+        Err(CountFault::Read(unread)) => Err(ListFault::Read(unread)),
     }
 }
 

@@ -1,8 +1,7 @@
 -- The JSON object of a keying that was heard, as an entry.
-use Rattle.std.specs.Prelude.{ℕ, List, ◌++◌, ◌-◌, codes, length, map, option_map, slice_get, unwrap_or}
+use Rattle.std.specs.Prelude.{ℕ, List, ◌-◌, codes, length, map, option_map, slice_get, unwrap_or}
 use Rattle.serde_json.specs.Data.{Data, array, member, no_members, number, object, string, unsigned}
 use Rattle.serde_json.specs.View.{items_of}
-use Rattle.serde_json.specs.Written.{compact_text}
 use Rattle.xb_measured.specs.declared.heard.Heard.{Heard}
 use Rattle.xb_json.specs.Keys.{digits_text, keys_of}
 use Rattle.xb_measured.specs.Figures.{end_ms}
@@ -53,7 +52,3 @@ abbrev pub entry_object : ℕ → List Heard → Data
 entry_object n keys =
     entry_of_parts n (began_ms keys) (ended_ms keys) (digits_in keys)
     (array (items_of (map doubt_object (doubts_of keys))))
-
--- the object as a line
-abbrev pub entry_line : ℕ → List Heard → List ℕ
-entry_line n keys = compact_text (entry_object n keys) ++ codes "\n"

@@ -10,11 +10,11 @@ use std::alloc::{AllocError, Global};
 
 /// A keying may lack a key where more than so many ms lie between two of its keys. A sender keys 68 ms between them, so
 /// some 204 lie there where one was not heard.
-pub const MOST_GAP_MS: u64 = 130;
+pub(crate) const MOST_GAP_MS: u64 = 130;
 
 /// Which limit a figure of a key breaks.
 #[derive(Clone, Copy, Debug, PartialEq, Eq)]
-pub enum DoubtKind {
+pub(crate) enum DoubtKind {
     /// The time since the key before it is over `MOST_GAP_MS`.
     LongGap,
     /// It lasts longer than a sender keys it.
@@ -25,7 +25,7 @@ pub enum DoubtKind {
 
 /// What may be wrong with a keying because of that.
 #[derive(Clone, Copy, Debug, PartialEq, Eq)]
-pub enum Effect {
+pub(crate) enum Effect {
     /// A key was not heard, or two were heard as one.
     Missing,
     /// A digit is a part of another, which a hole cut in two.
@@ -36,7 +36,7 @@ pub enum Effect {
 
 /// Why a keying that was heard may be another one: a figure of one of its keys breaks a limit.
 #[derive(Clone, Copy, Debug, PartialEq, Eq)]
-pub struct Doubt {
+pub(crate) struct Doubt {
     /// Which limit.
     pub kind: DoubtKind,
     /// What may be wrong.
@@ -129,7 +129,7 @@ fn push_doubt(doubts: &mut Vec<Doubt>, doubt: Option<Doubt>) -> Result<(), Alloc
 }
 
 /// The doubts of the keys of a keying, in their order. `Err` says that memory ran out.
-pub fn doubts_of(alloc: Global, keys: &[NamedKey]) -> Result<Vec<Doubt>, AllocError>
+pub(crate) fn doubts_of(alloc: Global, keys: &[NamedKey]) -> Result<Vec<Doubt>, AllocError>
     ensures { IfOk result (λ doubts. doubts.items ≡ doubts_of keys.now) }
 {
     let mut doubts = Vec::new(alloc);

@@ -50,14 +50,14 @@ fn ms_of(samples: u128) -> u64
 }
 
 /// When a key began, in ms from the first sample.
-pub fn start_ms(key: Heard) -> u64
+pub(crate) fn start_ms(key: Heard) -> u64
     ensures { result ≡ start_ms key }
 {
     ms_of(HOP * u128::from(key.first) + HOP)
 }
 
 /// When a key ended, in ms from the first sample.
-pub fn end_ms(key: Heard) -> u64
+pub(crate) fn end_ms(key: Heard) -> u64
     ensures { result ≡ end_ms key }
 {
     ms_of(HOP * u128::from(key.past) + PAST_HOP)

@@ -1,3 +1,5 @@
+pub mod Letters
+pub mod WorkedLetters
 pub mod Constants
 pub mod CutRows
 pub mod Digits

@@ -160,15 +160,3 @@ completes_none plan digits n is short =
     at front rest e (inr same) =
         let count : length front + length rest ≡ length digits = sym (length-append front rest) ∙ ap length e in
         rw (same ∙ ap (plan_len plan) e ∙ is) (ne_eqb n (length front) (λ w. omega (arith, count, short, w)))
-
--- and so are digits that do not tell the length
-pub tells_none : (plan : Plan) (digits : List ℕ) → plan_len plan digits ≡ None
-    → shortest_complete plan digits ≡ None
-tells_none plan digits is =
-    find-none (is_complete plan) digits (λ front rest e. at front rest e (plan_len-front plan front rest))
-  where
-    at : (front rest : List ℕ) → front ++ rest ≡ digits
-        → (plan_len plan front ≡ None) ⊎ (plan_len plan front ≡ plan_len plan (front ++ rest))
-        → is_complete plan front ≡ false
-    at front rest e (inl none) = rw none refl
-    at front rest e (inr same) = rw (same ∙ ap (plan_len plan) e ∙ is) refl

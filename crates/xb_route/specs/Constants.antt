@@ -1,6 +1,6 @@
 -- The numbers that documents and texts name.
 use Rattle.std.specs.Prelude.{◌≡◌}
-use Rattle.xb_route.specs.declared.reading.TheConstants.{MOST_TEXT_BYTES}
+use Rattle.xb_route.specs.declared.number_texts.TheConstants.{MOST_TEXT_BYTES}
 
 -- the most bytes of a text of numbers
 abbrev pub MostTextBytesIsRight : Type 0

@@ -9,6 +9,7 @@ pub mod Placed
 pub mod Pages
 pub mod Timed
 pub mod Objects
+pub mod Styled
 pub mod Shown
 pub mod Listeners
 pub mod Reports

@@ -1,7 +1,10 @@
 // A page in HTML with a section for each keying.
 ghost use Rattle.std.specs.Prelude.{◌≡◌, ◌++◌, IfOk, OnOk, string_bytes};
 ghost use Rattle.xb_measured.specs.Lines.{text_lines};
-ghost use Rattle.xb_shown.specs.Sections.{end_text, figures_text, lines_text, opening_text, section_text, start_text, told_text, told_words};
+ghost use Rattle.xb_svg.specs.Drawings.{PutsBy};
+ghost use Rattle.xb_shown.specs.Pictures.{part_of};
+ghost use Rattle.xb_shown.specs.Sections.{end_text, figures_text, lines_text, opening_text, section_text};
+ghost use Rattle.xb_shown.specs.Sections.{start_text, told_text, told_words};
 
 use crate::heading::{Title, keyed_words, title_words};
 use crate::keying::push_keying;
@@ -118,7 +121,8 @@ pub(crate) fn push_part(
     before: Option<Heard>,
     keys: &[NamedKey],
 ) -> Result<(), AllocError>
-    ensures { OnOk result (string_bytes out.new ≡ string_bytes out.old ++ section_text title before keys.now) }
+    ensures { OnOk result (PutsBy (λ looks. section_text looks (part_of title before keys.now))
+        (string_bytes out.old) (string_bytes out.new)) }
 {
     push_opening(alloc, out, title, keys)?;
     push_keying(alloc, out, title, before, keys)?;

@@ -22,14 +22,14 @@ impl Model for Sections {
 }
 
 impl Sections {
-    ghost use Rattle.std.specs.Prelude.{◌≡◌, ◌++◌, ◌∷◌, [], false, IfErr, List, OnOk, string_bytes};
-    ghost use Rattle.xb_shown.specs.Pages.{page_rest, page_text, unbegun_text};
-    ghost use Rattle.xb_shown.specs.Pictures.{Part, part_of};
+    ghost use Rattle.std.specs.Prelude.{◌≡◌, ◌++◌, false, true, IfErr, OnOk, string_bytes};
+    ghost use Rattle.xb_svg.specs.Drawings.{PutsBy};
+    ghost use Rattle.xb_shown.specs.Pictures.{part_of};
+    ghost use Rattle.xb_shown.specs.Sections.{end_text, section_text, unbegun_text};
 
     /// Before the page is begun.
     pub fn new() -> Sections
-        ensures begun { result ≡ false }
-        ensures whole { (parts : List Part) → page_rest result parts ≡ page_text parts }
+        ensures { result ≡ false }
     {
         Sections { is_begun: false }
     }
@@ -55,8 +55,10 @@ impl Sections {
         before: Option<Heard>,
         keys: &[NamedKey],
     ) -> Result<(), AllocError>
-        ensures text { (later : List Part) → OnOk result (string_bytes out.new ++ page_rest self.new later
-            ≡ string_bytes out.old ++ page_rest self.old (part_of title before keys.now ∷ later)) }
+        ensures text { OnOk result (PutsBy
+            (λ looks. unbegun_text self.old ++ section_text looks (part_of title before keys.now))
+            (string_bytes out.old) (string_bytes out.new)) }
+        ensures begun { OnOk result (self.new ≡ true) }
         ensures kept { IfErr result (λ _. self.new ≡ self.old) }
     {
         self.begin(out)?;
@@ -67,7 +69,8 @@ impl Sections {
 
     /// Puts the end of the page after the text, of one without a section all of it. `Err` says that memory ran out.
     pub fn end(&self, out: &mut String) -> Result<(), AllocError>
-        ensures { OnOk result (string_bytes out.new ≡ string_bytes out.old ++ page_rest self.now []) }
+        ensures { OnOk result (string_bytes out.new
+            ≡ string_bytes out.old ++ (unbegun_text self.now ++ end_text)) }
     {
         self.begin(out)?;
         push_page_end(out)

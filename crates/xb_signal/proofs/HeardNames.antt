@@ -17,8 +17,8 @@ use Rattle.xb_sound.proofs.Insides.{heard_after-tone}
 use Rattle.xb_sound.proofs.KeyWaves.{IsKeyWave, each_digit, key_wave}
 use Rattle.xb_sound.proofs.Places.{pair_sample-turns}
 use Rattle.xb_sound.proofs.Silences.{heard_after-silence}
-use Rattle.xb_signal.specs.declared.name.Name.{Name}
-use Rattle.xb_signal.specs.declared.name.Name.TheVariants.{Key, Kp2, StPrime, StTwoPrimes, StThreePrimes}
+use Rattle.xb_signal.specs.declared.key_name.Name.{Name}
+use Rattle.xb_signal.specs.declared.key_name.Name.TheVariants.{Key, Kp2, StPrime, StTwoPrimes, StThreePrimes}
 use Rattle.xb_signal.specs.Names.{name_ms, pair_of}
 use Rattle.xb_signal.specs.Moments.{start}
 use Rattle.xb_signal.specs.Segments.{silent}

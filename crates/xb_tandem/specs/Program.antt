@@ -4,7 +4,7 @@ use Rattle.std.specs.Io.KnownBytes.{Appends}
 use Rattle.xb_command.specs.Files.{Bytes}
 use Rattle.xb_command.specs.Programs.{Streams}
 use Rattle.xb_command.specs.Telling.{Tells}
-use Rattle.xb_command.specs.Works.{AsksBy, AsksNothing, Rules, file_source}
+use Rattle.xb_command.specs.Works.{AsksBy, Rules, file_source}
 use Rattle.xb_command.specs.declared.table.Program.{Program}
 use Rattle.xb_command.specs.declared.telling.TheConstants.{DONE, FAULT}
 use Rattle.xb_text.specs.Writing.{AppendsBeginning}
@@ -12,7 +12,7 @@ use Rattle.xb_tandem.specs.declared.fault.TandemFault.{TandemFault}
 use Rattle.xb_tandem.specs.declared.request.Asked.{Asked}
 use Rattle.xb_tandem.specs.declared.request.Form.{Form}
 use Rattle.xb_tandem.specs.declared.request.Form.TheVariants as forms
-use Rattle.xb_tandem.specs.Options.{Say, asked_by}
+use Rattle.xb_tandem.specs.Options.{AskNothing, Say, asked_by}
 use Rattle.xb_tandem.specs.Relaying.{Delivers}
 
 -- the line of a note: how many calls are not in what was written
@@ -59,7 +59,7 @@ pub record HasUntold (asked : Asked) (program : Program) (bytes : Bytes) (old ne
 abbrev pub by_tandem : Rules Asked
 by_tandem = record {
   Asks = AsksBy Say asked_by;
-  Misfits = λ call misfit. AsksNothing Say asked_by call;
+  Misfits = AskNothing;
   source = λ asked. file_source asked.keys;
   Done = λ asked program bytes old new. WritesAll asked bytes old new;
   Fails = λ asked program bytes old new. HasFault asked program bytes old new ⊎ HasUntold asked program bytes old new;

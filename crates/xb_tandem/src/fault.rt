@@ -1,6 +1,7 @@
 // Why a text line says no key, and why an office stops.
 ghost use Rattle.std.specs.Prelude.{◌≡◌};
 
+use crate::bytes::Unread;
 use std::alloc::AllocError;
 use thiserror::Error;
 use xb_command::OpenFault;
@@ -29,10 +30,10 @@ pub enum LineFault {
 }
 
 /// Why a line is not read.
-#[derive(Clone, Copy, Debug, PartialEq, Eq)]
+#[derive(Clone, Copy, Debug)]
 pub(crate) enum ReadingFault {
     /// A read failed, an interrupted one too.
-    Read,
+    Read(Unread),
     /// Memory ran out.
     NoMemory,
 }
@@ -58,7 +59,7 @@ pub enum TandemFault<'a> {
     Table(OutgoingFault),
     /// A read of the keys failed, an interrupted one too.
     #[error("the keys could not be read")]
-    Read,
+    Read(Unread),
     /// This text line, from 1, is wrong. The entries were written that the keys before it make certain.
     #[error("text line {0} {1}")]
     TextLine(u64, LineFault),
@@ -82,6 +83,16 @@ pub(crate) enum NoteFault {
     /// Memory ran out.
     #[error("{}", RowFault::NoMemory)]
     NoMemory,
+}
+
+impl From<Unread> for ReadingFault {
+    ghost use Rattle.xb_tandem.specs.declared.fault.ReadingFault.TheVariants.{Read};
+
+    ghost from_gives = { λ unread e. e ≡ Read unread };
+
+    fn from(unread: Unread) -> ReadingFault {
+        ReadingFault::Read(unread)
+    }
 }
 
 impl From<AllocError> for WritingFault {
@@ -138,7 +149,7 @@ impl<'a> From<ReadingFault> for TandemFault<'a> {
 
     fn from(fault: ReadingFault) -> TandemFault<'a> {
         match fault {
-            ReadingFault::Read => TandemFault::Read,
+            ReadingFault::Read(unread) => TandemFault::Read(unread),
             ReadingFault::NoMemory => TandemFault::NoMemory,
         }
     }

@@ -55,7 +55,6 @@ pub use keying::play_keys;
 pub use objects_fault::{LineFault, TextFault};
 pub use placing::play_at;
 pub use playing::play;
-pub use program::attend;
 pub use request::{Asked, Choice, Request};
 pub use sounding::write_placed;
 pub use text::{MOST_TEXT_BYTES, entries_of_text};

@@ -112,22 +112,11 @@ const CASES: [(&[u8], &str); 6] = [GOOD, UNENDED, SPOILED, DRIFT, BOUNCED, IDLE]
 #[test]
 fn tells_of_each_digit(rt: HostRuntime) -> Result<(), Fail> {
     for (recording, lines) in CASES {
-        check_lines(&rt, rt.alloc(), &["--wire", "7=1"], recording, BELL, lines)?;
+        check_lines(rt.alloc(), &["--wire", "7=1"], recording, BELL, lines)?;
     }
-    Ok(())
-}
-
-#[test]
-fn goes_by_other_limits(rt: HostRuntime) -> Result<(), Fail> {
     for (limits, recording, lines) in LIMITS {
-        check_lines(
-            &rt,
-            rt.alloc(),
-            &["--wire", "7=1", "--limit", limits],
-            recording,
-            BELL,
-            lines,
-        )?;
+        let words = ["--wire", "7=1", "--limit", limits];
+        check_lines(rt.alloc(), &words, recording, BELL, lines)?;
     }
     Ok(())
 }

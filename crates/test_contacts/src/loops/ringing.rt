@@ -1,7 +1,8 @@
 // A line that rings, is answered, and calls.
-use crate::loops::attending::{Case, check_reader};
+use crate::loops::attending::Mfloop;
 use std::alloc::Global;
 use std::test::Fail;
+use test_kit::{Gives, check_status};
 
 // A level for so many samples of 1 ms.
 fn hold(samples: &mut Vec<u8>, level: u8, ms: u32) -> Result<(), Fail> {
@@ -99,14 +100,7 @@ const ROWS: &[u8] = b"line,state,ms\n7,B,20000\n7,M,500\n7,B,60\n7,M,600\n\
 fn a_night_gives_its_calls(rt: HostRuntime) -> Result<(), Fail> {
     let samples = night(rt.alloc())?;
     for words in WORDS {
-        let case = Case {
-            words,
-            recording: &samples,
-            rows: ROWS,
-            told: b"",
-        };
-        let mut reader = case.recording;
-        check_reader(&rt, rt.alloc(), &mut reader, &case, 0)?;
+        check_status(rt.alloc(), &Mfloop, words, &samples, Gives::page(ROWS))?;
     }
     Ok(())
 }

@@ -1,6 +1,7 @@
 // Tables, and lines of gpiomon, as several programs write them.
-use crate::loops::attending::{Case, check_reader};
+use crate::loops::attending::{Mfloop, check_begun};
 use std::test::Fail;
+use test_kit::{Fault, Gives, check_status};
 
 // 10 ms open, and then 20 ms closed.
 const ROWS: &[u8] = b"line,state,ms\n7,B,10\n7,M,20\n";
@@ -70,23 +71,8 @@ microseconds,logic,logic\n22,1,0\n9724,0,1\n29128,0,1\n",
 const LOST: &[u8] =
     b"1.0 rising gpiochip0 4\n1.1 rising gpiochip0 4\n1.2 rising gpiochip0 17\n1.3 rising gpiochip0 17\n";
 
-#[test]
-fn gives_the_rows_of_each(rt: HostRuntime) -> Result<(), Fail> {
-    for (words, recording) in TAKEN {
-        let mut reader = *recording;
-        let case = Case {
-            words,
-            recording,
-            rows: ROWS,
-            told: b"",
-        };
-        check_reader(&rt, rt.alloc(), &mut reader, &case, 0)?;
-    }
-    Ok(())
-}
-
 // Words, a recording, and the line that says why it is refused.
-const REFUSED: &[(&[&str], &[u8], &[u8])] = &[
+const REFUSED: &[Fault] = &[
     (
         &["--wire", "7=A"],
         b"Time [s],A,B,A\n0,0,1,1\n",
@@ -133,16 +119,14 @@ const REFUSED: &[(&[&str], &[u8], &[u8])] = &[
 ];
 
 #[test]
-fn refuses_what_it_could_take_for_another(rt: HostRuntime) -> Result<(), Fail> {
-    for (words, recording, told) in REFUSED {
-        let mut reader = *recording;
-        let case = Case {
-            words,
-            recording,
-            rows: b"line,state,ms\n",
-            told,
-        };
-        check_reader(&rt, rt.alloc(), &mut reader, &case, 1)?;
+fn gives_the_rows_of_each(rt: HostRuntime) -> Result<(), Fail> {
+    for (words, recording) in TAKEN {
+        check_status(rt.alloc(), &Mfloop, words, recording, Gives::page(ROWS))?;
     }
     Ok(())
+}
+
+#[test]
+fn refuses_what_it_could_take_for_another(rt: HostRuntime) -> Result<(), Fail> {
+    check_begun(rt.alloc(), b"line,state,ms\n", REFUSED)
 }

@@ -1,7 +1,7 @@
 // Reports of a small deck, as a person reckoned them.
+use crate::hear::statuses::Mfhear;
 use std::test::Fail;
-use test_kit::{Folder, called, words_of};
-use xb_hear::{PROGRAM, attend};
+use test_kit::{Gives, check_status};
 
 // Line 7 dials 0 with a make at its limit, line 8 a digit with a break over its limit, line 9 nothing, and line 10
 // two such digits and a good one.
@@ -107,21 +107,8 @@ fn reports_as_reckoned(rt: HostRuntime) -> Result<(), Fail> {
         for part in *parts {
             want.push_str(part)?;
         }
-        let all = words_of(rt.alloc(), "mfhear", words)?;
-        let mut deck = *deck;
-        let mut out = Vec::new(rt.alloc());
-        let mut err = Vec::new(rt.alloc());
-        let got = attend(
-            rt.alloc(),
-            &called(&PROGRAM, &all),
-            &Folder(&[]),
-            &mut deck,
-            &mut out,
-            &mut err,
-        );
-        assert_eq!(rt; got, 0, "{words:?}");
-        assert!(rt; err.is_empty(), "{words:?}");
-        assert!(rt; out.as_slice() == want.as_bytes(), "{words:?}");
+        let wanted = Gives::page(want.as_bytes());
+        check_status(rt.alloc(), &Mfhear, words, deck, wanted)?;
     }
     Ok(())
 }

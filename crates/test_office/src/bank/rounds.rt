@@ -34,13 +34,6 @@ impl<'a> Schedule for OperatorInRounds<'a> {
     }
 }
 
-#[test]
-fn replay_in_rounds(rt: HostRuntime) -> Result<(), Fail> {
-    let posts = round_of(rt.alloc(), 2)?;
-    let deck = deck_of(rt.alloc(), &OPERATOR_CALL)?;
-    deck.play(&rt, rt.alloc(), 2, 1, &OperatorInRounds { posts: &posts })
-}
-
 // Rounds to the end.
 #[derive(Clone, Copy)]
 struct ToTheEnd<'a> {
@@ -60,10 +53,12 @@ impl<'a> Schedule for ToTheEnd<'a> {
     }
 }
 
-// From the feed to the tape, and from the tape to the feed.
+// Until the operator is called; and another deck from the feed to the tape, and from the tape to the feed.
 #[test]
-fn replay_in_both_orders(rt: HostRuntime) -> Result<(), Fail> {
+fn replay_in_rounds(rt: HostRuntime) -> Result<(), Fail> {
     let mut posts = round_of(rt.alloc(), 2)?;
+    let deck = deck_of(rt.alloc(), &OPERATOR_CALL)?;
+    deck.play(&rt, rt.alloc(), 2, 1, &OperatorInRounds { posts: &posts })?;
     let deck = deck_of(rt.alloc(), &SECOND_CALL)?;
     deck.play(&rt, rt.alloc(), 2, 1, &ToTheEnd { posts: &posts })?;
     posts.reverse();

@@ -1,10 +1,10 @@
 // The page of a sound that xb_sound wrote.
-use crate::rx::calling::heard;
+use crate::rx::calling::Mfrx;
 use sha1::Sha1;
 use std::alloc::Global;
 use std::test::Fail;
+use test_kit::attended;
 use test_kit::marks::keying;
-use test_kit::words_of;
 use xb_sound::{Cadence, write_wav};
 
 // The page of two keyings, worked out by hand.
@@ -109,16 +109,11 @@ fn written(
     options: &[&str],
     wanted: u8,
 ) -> Result<Vec<u8>, Fail> {
-    let file = sound(alloc, numbers)?;
-    let words = words_of(alloc, "mfrx", options)?;
-    let mut reader = file.as_slice();
-    let mut out = Vec::new(alloc);
-    let mut err = Vec::new(alloc);
-    let status = heard(alloc, &words, &mut reader, &mut out, &mut err);
-    if status != wanted || (status == 0 && !err.is_empty()) {
-        return Err("another status".into());
+    let (written, told) = heard_by(alloc, &sound(alloc, numbers)?, options, wanted)?;
+    if wanted == 0 && !told.is_empty() {
+        return Err("a line is told".into());
     }
-    Ok(out)
+    Ok(written)
 }
 
 // What is heard of the first of them where bytes of its file are silence.
@@ -172,14 +167,12 @@ fn heard_by(
     options: &[&str],
     wanted: u8,
 ) -> Result<(Vec<u8>, Vec<u8>), Fail> {
-    let words = words_of(alloc, "mfrx", options)?;
-    let mut reader = file;
-    let mut out = Vec::new(alloc);
-    let mut err = Vec::new(alloc);
-    if heard(alloc, &words, &mut reader, &mut out, &mut err) != wanted {
-        return Err("another status".into());
+    let gave = attended(alloc, &Mfrx, options, file)?;
+    if gave.status != wanted {
+        let status = gave.status;
+        return Err(Fail::new(format_args!("{options:?}: status {status}")));
     }
-    Ok((out, err))
+    Ok((gave.written, gave.line))
 }
 
 // The same with status 0.
@@ -237,17 +230,18 @@ fn tells_keys_that_are_too_long(rt: HostRuntime) -> Result<(), Fail> {
     Ok(())
 }
 
-#[test]
-fn writes_the_page_of_a_sound(rt: HostRuntime) -> Result<(), Fail> {
-    let page = written(rt.alloc(), NUMBERS, &["--line", "42", "--trunk", "17"], 0)?;
-    assert!(rt; page.as_slice() == PAGE);
-    Ok(())
-}
+// The words, and what is written of the two by them.
+const BY_WORDS: &[(&[&str], &[u8])] = &[
+    (&["--line", "42", "--trunk", "17"], PAGE),
+    (&["--tones"], KEYS),
+];
 
 #[test]
-fn tells_each_key(rt: HostRuntime) -> Result<(), Fail> {
-    let keys = written(rt.alloc(), NUMBERS, &["--tones"], 0)?;
-    assert!(rt; keys.as_slice() == KEYS);
+fn writes_the_page_and_tells_each_key(rt: HostRuntime) -> Result<(), Fail> {
+    for (words, wanted) in BY_WORDS {
+        let came = written(rt.alloc(), NUMBERS, words, 0)?;
+        assert!(rt; came.as_slice() == *wanted, "{words:?}");
+    }
     let objects = written(rt.alloc(), NUMBERS, &["--json"], 0)?;
     assert!(rt; objects.starts_with(OBJECT));
     assert!(rt; objects.ends_with(SECOND_ENTRY));

@@ -1,0 +1,10 @@
+use Rattle.std.proofs.Common.{◌∙◌, ap, flat_map, map-id, sym}
+use Rattle.std.proofs.lemmas.Iterator.{YieldsList-from_chars}
+use Rattle.std.proofs.lemmas.Iterator.Consumers.{YieldsList-end}
+use Rattle.xb_check.specs.Named.{sign_text}
+use Rattle.xb_check.proofs.file_name.in_one_line.Goals as goal
+
+pub returns : goal.returns
+returns c =
+    let end = YieldsList-end (YieldsList-from_chars c.args.name.now c.utf8.name cc) c.loop-sign.yielded _ c.loop-sign.yielded_by _ _ c.in-None.is c.next.ensures.steps in
+    c.loop-sign.invariant ∙ ap (flat_map sign_text) (sym (map-id c.loop-sign.yielded) ∙ end.0)
