@@ -132,21 +132,28 @@ def line(key):
 
 
 def doubts(part):
-    """The lines of what is doubtful of an entry."""
+    """The line of what is doubtful of an entry, by the rhythm of its keys."""
     number, keys = part
-    text = ""
     if number is None:
-        return text
-    head = f"mfrx: entry {number} at {seconds(keys[0]['at_ms'])} s: "
-    for count, key in enumerate(keys, 1):
-        if count > 1 and key["gap_ms"] > 130:
-            text += head + f"{key['gap_ms']} ms between its keys {count - 1} and {count}: one may be missing\n"
-        normal, length = 100 if key["key"] == "KP" else 68, key["length_ms"]
-        if abs(length - normal) > 14:
-            short = "one may be too many" if key["key"].isdigit() else "it may be cut"
-            effect = "one may be missing" if length > normal else short
-            text += head + f"its key {count} lasts {length} ms, not {normal} give or take 14: {effect}\n"
-    return text
+        return ""
+    lengths, gaps = sorted(key["length_ms"] for key in keys[1:]), sorted(key["gap_ms"] for key in keys[1:])
+    usual, gap = lengths[(len(lengths) - 1) // 2], gaps[(len(gaps) - 1) // 4]
+    told = []
+    for count, key in enumerate(keys[1:], 2):
+        between = f"{key['gap_ms']} ms between its keys {count - 1} and {count}, where {gap} are usual: "
+        if key["gap_ms"] > gap + (gap + usual) // 2 + 8:
+            told.append(between + "one may be missing")
+        elif key["gap_ms"] < 20:
+            told.append(between + "one may be too many")
+        lasts = f"its key {count} lasts {key['length_ms']} ms, where {usual} are usual: "
+        if key["length_ms"] > usual + 2 * usual // 3 + 6:
+            told.append(lasts + "one may be missing")
+        elif key["length_ms"] < usual // 2:
+            told.append(lasts + ("one may be too many" if key["key"].isdigit() else "it may be cut"))
+    if not told:
+        return ""
+    more = f"; the first of {len(told)} doubts" if len(told) > 1 else ""
+    return f"mfrx: entry {number} at {seconds(keys[0]['at_ms'])} s: {told[0]}{more}\n"
 
 
 def check_page(page, parts):

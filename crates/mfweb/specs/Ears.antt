@@ -27,7 +27,7 @@ abbrev pub parts_in : WebEar → PlainEar
 parts_in ear = record {
   window = ear.window;
   filled = ear.filled;
-  held = ear.held;
+  held = map sight_in ear.held;
   least = ear.least;
   hearing = record {
     at = ear.at;

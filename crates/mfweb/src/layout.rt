@@ -29,7 +29,7 @@ wrong:u32@572 digit:u32@576 listens:u32@580
 cadence 8 lead:u16@0 kp:u16@2 key:u16@4 gap:u16@6
 sight 24 low_level:u64@0 high_level:u64@8 low:u16@16 high:u16@18 kind:u16@20 value:u16@22
 heard 40 sight:sight@0 first:u64@24 past:u64@32
-ear 792
+ear 1816
 timed 24 begin_ms:u64@0 end_ms:u64@8 kind:u8@16 digit:u8@17
 outcome 12 kind:u8@0 count:u8@1 digits:u8*10@2
 ";
@@ -62,7 +62,7 @@ const _: () = prove!(size_of::<WebSight>() == 24);
 
 const _: () = prove!(size_of::<WebHeard>() == 40);
 
-const _: () = prove!(size_of::<WebEar>() == 792);
+const _: () = prove!(size_of::<WebEar>() == 1_816);
 
 const _: () = prove!(size_of::<PlainKey>() == 24);
 

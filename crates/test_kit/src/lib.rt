@@ -25,9 +25,9 @@ pub use beside::{Beside, shown};
 pub use dice::Dice;
 pub use folder::Folder;
 pub use programs::{
-    Case, Fault, Given, Gives, Page, Program, Refusal, attended, check_cases, check_faults,
-    check_pages, check_pieces, check_reads, check_refusals, check_status, check_streams,
-    check_writes, run, written,
+    Case, Fault, Given, Gives, Page, Program, Refusal, Streams, attended, check_cases,
+    check_faults, check_pages, check_pieces, check_reads, check_refusals, check_status,
+    check_streams, check_writes, run, written,
 };
 pub use streams::{Halting, Short};
 pub use texts::check_texts;

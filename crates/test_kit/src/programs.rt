@@ -12,20 +12,23 @@ const STEP: usize = 40;
 // The same of a reader that fails.
 const FAILING_STEP: usize = 4;
 
+/// The streams of a program.
+pub struct Streams<'s, 'r> {
+    /// Its standard input.
+    pub reader: &'s mut Halting<'r>,
+    /// Its standard output.
+    pub out: &'s mut Short,
+    /// Its standard error.
+    pub err: &'s mut Vec<u8>,
+}
+
 /// A program: words and streams in, a status out.
 pub trait Program {
     /// Its name, which is the first of its words.
     fn name(&self) -> &'static str;
 
     /// Does what the words ask for, and gives its status.
-    fn attend(
-        &self,
-        alloc: Global,
-        words: &[String],
-        reader: &mut Halting<'_>,
-        out: &mut Short,
-        err: &mut Vec<u8>,
-    ) -> u8;
+    fn attend(&self, alloc: Global, words: &[String], streams: Streams<'_, '_>) -> u8;
 }
 
 /// A row of a table: the words after the program's name, what stands on standard input, the status, and what
@@ -89,7 +92,12 @@ pub fn run<P: Program>(
 ) -> Result<(u8, Vec<u8>), AllocError> {
     let all = words_of(alloc, program.name(), words)?;
     let mut err = Vec::new(alloc);
-    let status = program.attend(alloc, &all, reader, out, &mut err);
+    let streams = Streams {
+        reader,
+        out,
+        err: &mut err,
+    };
+    let status = program.attend(alloc, &all, streams);
     Ok((status, err))
 }
 

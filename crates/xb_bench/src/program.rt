@@ -14,9 +14,7 @@ use crate::told::{first_text, last_text};
 use crate::words::{Asked, asked_of};
 use std::alloc::Global;
 use std::io::{Read, Write};
-use xb_command::{
-    Answer, Call, DONE, Files, Program, Source, Words, Work, file_source, tell_fault,
-};
+use xb_command::{Answer, Call, DONE, Files, Given, Source, Words, Work, file_source, tell_fault};
 use xb_feed::{RecordingFault, Request, listen, missing_name};
 use xb_text::write_whole;
 
@@ -149,18 +147,10 @@ impl<'a> Work<'a> for Asked<'a> {
         file_source(self.request.recording)
     }
 
-    fn run<F: Files, R: Read, W: Write, E: Write>(
-        self,
-        alloc: Global,
-        program: &Program<'a>,
-        _files: &F,
-        input: &mut R,
-        out: &mut W,
-        err: &mut E,
-    ) -> u8 {
-        match print(alloc, self.request, input, out) {
+    fn run<F: Files, R: Read, W: Write, E: Write>(self, given: Given<'_, 'a, F, R, W, E>) -> u8 {
+        match print(given.alloc, self.request, given.input, given.out) {
             Ok(()) => DONE,
-            Err(fault) => tell_fault(alloc, err, program.name, fault),
+            Err(fault) => tell_fault(given.alloc, given.err, given.program.name, fault),
         }
     }
 }

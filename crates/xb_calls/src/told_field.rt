@@ -85,10 +85,14 @@ impl ToldField {
 }
 
 impl fmt::Display for ToldField {
+    ghost use Rattle.std.specs.Prelude.{Some};
+
+    ghost output = { λ field. Some field };
+
     fn fmt<W: fmt::Write>(&self, f: &mut fmt::Formatter<W>) -> fmt::Result {
-        for byte in self.bytes() {
-            f.write_char(char::from(*byte))?;
+        match str::from_utf8(self.bytes()) {
+            Ok(text) => f.write_str(text),
+            Err(_) => Err(fmt::Error),
         }
-        Ok(())
     }
 }

@@ -24,7 +24,6 @@ mod checking;
 mod deck_contents;
 mod doubts;
 mod fault;
-mod file_name;
 pub mod laws;
 mod program;
 mod reporting;

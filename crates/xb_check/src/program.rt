@@ -1,16 +1,24 @@
 // The program: its words and a deck in, a status and what is wrong with the deck out.
+ghost use Rattle.std.specs.Prelude.{◌≡◌, IfOk, string_bytes};
+ghost use Rattle.xb_command.specs.FaultTexts.{one_line};
 ghost use Rattle.xb_check.specs.Named.{Reports};
 ghost use Rattle.xb_check.specs.Program.{by_check};
 
 use crate::checking::check;
 use crate::fault::CheckFault;
-use crate::file_name::in_one_line;
 use crate::words::{Request, misfit_of, request_of};
-use std::alloc::Global;
+use std::alloc::{AllocError, Global};
 use std::io::{Read, Write};
 use xb_command::{
-    Answer, Call, DONE, Files, Program, Source, Words, Work, tell_fault, text_source,
+    Answer, Call, DONE, Files, Given, InOneLine, Source, Words, Work, tell_fault, text_source,
 };
+
+// A name in one line.
+fn in_one_line(alloc: Global, name: &str) -> Result<String, AllocError>
+    ensures { IfOk result (λ line. string_bytes line ≡ one_line name.now) }
+{
+    format!(in alloc; "{}", InOneLine(name))
+}
 
 // Checks the deck that is asked for, under the name that is told of it.
 fn check_named<R: Read, W: Write>(
@@ -43,18 +51,10 @@ impl<'a> Work<'a> for Request<'a> {
         text_source(self.deck)
     }
 
-    fn run<F: Files, R: Read, W: Write, E: Write>(
-        self,
-        alloc: Global,
-        program: &Program<'a>,
-        _files: &F,
-        input: &mut R,
-        out: &mut W,
-        err: &mut E,
-    ) -> u8 {
-        match check_named(alloc, self, input, out) {
+    fn run<F: Files, R: Read, W: Write, E: Write>(self, given: Given<'_, 'a, F, R, W, E>) -> u8 {
+        match check_named(given.alloc, self, given.input, given.out) {
             Ok(()) => DONE,
-            Err(fault) => tell_fault(alloc, err, program.name, fault),
+            Err(fault) => tell_fault(given.alloc, given.err, given.program.name, fault),
         }
     }
 }

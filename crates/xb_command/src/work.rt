@@ -47,6 +47,22 @@ pub fn file_source(name: Option<&str>) -> Source<'_>
     }
 }
 
+/// What a program works with: its streams, and what its process gives it.
+pub struct Given<'s, 'a, F, R, W, E> {
+    /// What it reads.
+    pub input: &'s mut R,
+    /// Its standard output.
+    pub out: &'s mut W,
+    /// Its standard error.
+    pub err: &'s mut E,
+    /// Its memory.
+    pub alloc: Global,
+    /// The program.
+    pub program: &'s Program<'a>,
+    /// The files that there are.
+    pub files: &'s F,
+}
+
 /// What the words of a program's command line ask for, and what is done by it.
 pub trait Work<'a>: Sized + Drop {
     ghost use Rattle.xb_command.specs.Works.{Rules};
@@ -64,20 +80,14 @@ pub trait Work<'a>: Sized + Drop {
     fn source(&self) -> Source<'a>
         ensures { result ≡ rules.source self.now };
 
-    /// Does what is asked for, with this input, and returns the status.
-    fn run<F: Files, R: Read, W: Write, E: Write>(
-        self,
-        alloc: Global,
-        program: &Program<'a>,
-        files: &F,
-        input: &mut R,
-        out: &mut W,
-        err: &mut E,
-    ) -> u8
-        ensures { Runs (rules.Done self program.now (F.bytes files.now))
-            (rules.Fails self program.now (F.bytes files.now))
-            (streams (R.remaining input.old) (W.contents out.old) (E.contents err.old))
-            (streams (R.remaining input.new) (W.contents out.new) (E.contents err.new)) result };
+    /// Does what is asked for with what is given, and returns the status.
+    fn run<F: Files, R: Read, W: Write, E: Write>(self, given: Given<'_, 'a, F, R, W, E>) -> u8
+        ensures { Runs (rules.Done self given.entry.program.now (F.bytes given.entry.files.now))
+            (rules.Fails self given.entry.program.now (F.bytes given.entry.files.now))
+            (streams (R.remaining given.entry.input.now) (W.contents given.entry.out.now)
+            (E.contents given.entry.err.now))
+            (streams (R.remaining given.exit.0.now) (W.contents given.exit.1.0.now)
+            (E.contents given.exit.1.1.0.now)) result };
 }
 
 // What the words of a call ask for, or why they choose nothing.
@@ -107,13 +117,40 @@ fn perform<'a, Q: Work<'a>, F: Files, R: Read, W: Write, E: Write>(
         (streams (R.remaining input.new) (W.contents out.new) (E.contents err.new)) result }
 {
     match request.source() {
-        Source::Input => request.run(alloc, program, files, input, out, err),
+        Source::Input => request.run(Given {
+            input,
+            out,
+            err,
+            alloc,
+            program,
+            files,
+        }),
         Source::Text(name) => match open_text(alloc, files, name) {
-            Ok(mut file) => request.run(alloc, program, files, &mut file, out, err),
+            Ok(mut file) => {
+                let input = &mut file;
+                request.run(Given {
+                    input,
+                    out,
+                    err,
+                    alloc,
+                    program,
+                    files,
+                })
+            }
             Err(fault) => tell_fault(alloc, err, program.name, fault),
         },
         Source::File(name) => match open_file(alloc, files, name) {
-            Ok(mut file) => request.run(alloc, program, files, &mut file, out, err),
+            Ok(mut file) => {
+                let input = &mut file;
+                request.run(Given {
+                    input,
+                    out,
+                    err,
+                    alloc,
+                    program,
+                    files,
+                })
+            }
             Err(fault) => tell_fault(alloc, err, program.name, fault),
         },
     }

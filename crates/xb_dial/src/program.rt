@@ -6,9 +6,7 @@ use crate::request::Asked;
 use crate::words::asked_of;
 use std::alloc::Global;
 use std::io::{Read, Write};
-use xb_command::{
-    Answer, Call, DONE, Files, Program, Source, Words, Work, tell_fault, text_source,
-};
+use xb_command::{Answer, Call, DONE, Files, Given, Source, Words, Work, tell_fault, text_source};
 
 impl<'a> Work<'a> for Asked<'a> {
     ghost use Rattle.xb_dial.specs.Program.{by_dial};
@@ -24,18 +22,10 @@ impl<'a> Work<'a> for Asked<'a> {
         text_source(self.calls)
     }
 
-    fn run<F: Files, R: Read, W: Write, E: Write>(
-        self,
-        alloc: Global,
-        program: &Program<'a>,
-        _files: &F,
-        input: &mut R,
-        out: &mut W,
-        err: &mut E,
-    ) -> u8 {
-        match dial(alloc, &self.request, input, out) {
+    fn run<F: Files, R: Read, W: Write, E: Write>(self, given: Given<'_, 'a, F, R, W, E>) -> u8 {
+        match dial(given.alloc, &self.request, given.input, given.out) {
             Ok(()) => DONE,
-            Err(fault) => tell_fault(alloc, err, program.name, fault),
+            Err(fault) => tell_fault(given.alloc, given.err, given.program.name, fault),
         }
     }
 }

@@ -20,7 +20,8 @@ use Rattle.xb_ear.specs.HeardKeys.{IsHearableUnlike, MOST_NOISE, MOST_NOISE_IN_T
 use Rattle.xb_ear.specs.LongRuns.{needed_of}
 use Rattle.xb_ear.proofs.HeardKeys.{long-enough, more-zeros, part-long, zeros}
 use Rattle.xb_ear.proofs.Runs.{needed-range}
-use Rattle.xb_ear.proofs.Segments.{drops, inside, part_of}
+use Rattle.xb_ear.proofs.Segments.{inside, part_of}
+use Rattle.xb_sound.proofs.ClearKeys.{drops}
 use Rattle.xb_ear.proofs.Shown.{still, still-anywhere}
 use Rattle.xb_ear.proofs.Mixes.{cleans}
 

@@ -1,6 +1,7 @@
 // What a receiver knows, in parts.
 use crate::echo_tails::TAIL_WINDOWS;
 use crate::hearing::Hearing;
+use crate::sight::Sight;
 
 /// What a receiver knows, for a caller that keeps it in memory of its own.
 #[derive(Clone, Copy, Debug, PartialEq, Eq)]
@@ -9,8 +10,8 @@ pub struct PlainEar {
     pub window: [i16; 80],
     /// How many they are: fewer than 80.
     pub filled: usize,
-    /// What both tones held that the last windows saw: their levels together, of silence 0.
-    pub held: [u64; TAIL_WINDOWS],
+    /// What stood out in the last windows.
+    pub held: [Option<Sight>; TAIL_WINDOWS],
     /// The least power that lay beside the six frequencies of late.
     pub least: u64,
     /// What is known after the windows so far.

@@ -7,8 +7,8 @@ use crate::levels::Levels;
 use crate::sight::all_levels;
 
 /// The least that lay beside the six frequencies of late grows by one part in so many with each window: it doubles in
-/// 1.8 s. Speech is never steady for so long.
-pub(crate) const STEADY_WINDOWS: u64 = 1_024;
+/// 57 s. No chord of music is steady for so long.
+pub(crate) const STEADY_WINDOWS: u64 = 32_768;
 
 /// The power of a window beside the six frequencies.
 pub(crate) fn beside(levels: Levels) -> u64

@@ -1,4 +1,5 @@
 pub mod Constants
+pub mod FaultTexts
 pub mod Followers
 pub mod Watching
 pub mod Watches

@@ -12,7 +12,7 @@ use crate::words::asked_of;
 use std::alloc::{AllocError, Global};
 use std::io::{Read, Write};
 use xb_command::{
-    Answer, Call, DONE, Files, Program, Source, Words, Work, tell_fault, text_source,
+    Answer, Call, DONE, Files, Given, Program, Source, Words, Work, tell_fault, text_source,
 };
 use xb_text::write_whole;
 
@@ -123,15 +123,14 @@ impl<'a> Work<'a> for Asked<'a> {
         text_source(self.deck)
     }
 
-    fn run<F: Files, R: Read, W: Write, E: Write>(
-        self,
-        alloc: Global,
-        program: &Program<'a>,
-        _files: &F,
-        input: &mut R,
-        out: &mut W,
-        err: &mut E,
-    ) -> u8 {
-        answer(alloc, self.request, program, input, out, err)
+    fn run<F: Files, R: Read, W: Write, E: Write>(self, given: Given<'_, 'a, F, R, W, E>) -> u8 {
+        answer(
+            given.alloc,
+            self.request,
+            given.program,
+            given.input,
+            given.out,
+            given.err,
+        )
     }
 }

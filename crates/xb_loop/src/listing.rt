@@ -3,12 +3,13 @@ ghost use Rattle.std.specs.Prelude.{◌≡◌, ◌≤◌, ◌++◌, ◌∷◌, [
 ghost use Rattle.std.specs.Io.KnownBytes.{Consumes, IsAtEnd, prepend_known};
 ghost use Rattle.xb_recording.specs.Beginnings.{form_told};
 ghost use Rattle.xb_recording.specs.Says.{is_text};
-ghost use Rattle.xb_loop.specs.Listing.{CountsMore, CountsOn, CountsRest, BeginsUntold, HasEdges, IsCount, IsFromOutside, IsUnlisted, ListsWires, edges_of, is_each};
+ghost use Rattle.xb_loop.specs.Listing.{CountsMore, CountsOn, CountsRest, BeginsUntold, HasEdges, IsCount, IsFromOutside, IsUnlisted, ListsWires, edges_of};
 
 use crate::counts::EdgeCounts;
 use crate::found_names::wires_named;
 use crate::names::WireNames;
 use std::alloc::{AllocError, Global};
+use std::fmt;
 use std::io::Read;
 use thiserror::Error;
 use xb_contact::{Event, Refusal};
@@ -35,14 +36,26 @@ pub struct Listing {
 #[derive(Debug, Drop, Error)]
 pub enum ListFault {
     /// Its form is told by nothing, or it is a file of several.
-    #[error("the recording: {0}")]
     Untold(Refusal),
     /// A read failed, an interrupted one too, or the recording had not ended after 2^64 - 1 reads.
-    #[error("the recording could not be read")]
     Read(Unread),
     /// Memory ran out.
-    #[error("out of memory")]
     NoMemory,
+}
+
+impl fmt::Display for ListFault {
+    ghost use Rattle.std.specs.Prelude.{Some};
+    ghost use Rattle.xb_loop.specs.FaultTexts.{list_text};
+
+    ghost output = { λ fault. Some (list_text fault) };
+
+    fn fmt<W: fmt::Write>(&self, f: &mut fmt::Formatter<W>) -> fmt::Result {
+        match self {
+            ListFault::Untold(refusal) => write!(f, "the recording: {refusal}"),
+            ListFault::Read(_) => f.write_str("the recording could not be read"),
+            ListFault::NoMemory => f.write_str("out of memory"),
+        }
+    }
 }
 
 impl From<AllocError> for ListFault {
@@ -230,13 +243,6 @@ impl<'a> Counter<'a> {
     }
 }
 
-// Whether each level that is said is an edge.
-fn is_each(format: Format) -> bool
-    ensures { result ≡ is_each format }
-{
-    format == Format::Gpiomon
-}
-
 // The edges that were counted, in order.
 fn edges_of(alloc: Global, counts: &EdgeCounts) -> Result<Vec<u64>, AllocError>
     ensures { IfOk result (λ edges. edges.items ≡ edges_of counts.now.seen.items) }
@@ -261,7 +267,7 @@ fn count<R: Read>(
 {
     let mut events = Vec::new(alloc);
     let reader = Reader::new(alloc, wanted, format, &mut events)?;
-    let mut counts = EdgeCounts::new(alloc, is_each(format), wanted.wires.len())?;
+    let mut counts = EdgeCounts::new(alloc, wanted.wires.len())?;
     counts.take(&events);
     let mut counter = Counter {
         reader,

@@ -14,7 +14,7 @@ use crate::{Listing, list_wires};
 use std::alloc::Global;
 use std::io::{Read, Write};
 use xb_command::{
-    Answer, Call, DONE, Files, Program, Source, Words, Work, file_source, tell_fault,
+    Answer, Call, DONE, Files, Given, Program, Source, Words, Work, file_source, tell_fault,
 };
 use xb_feed::{AskedLine, RecordingFault, Request, listen, missing_name};
 use xb_text::write_whole;
@@ -193,19 +193,26 @@ impl<'a> Work<'a> for Asked<'a> {
         file_source(self.request.recording)
     }
 
-    fn run<F: Files, R: Read, W: Write, E: Write>(
-        self,
-        alloc: Global,
-        program: &Program<'a>,
-        files: &F,
-        input: &mut R,
-        out: &mut W,
-        err: &mut E,
-    ) -> u8 {
+    fn run<F: Files, R: Read, W: Write, E: Write>(self, given: Given<'_, 'a, F, R, W, E>) -> u8 {
         if self.list {
-            answer_wires(alloc, &self.request, program, input, out, err)
+            answer_wires(
+                given.alloc,
+                &self.request,
+                given.program,
+                given.input,
+                given.out,
+                given.err,
+            )
         } else {
-            answer_rows(alloc, files, self.request, program, input, out, err)
+            answer_rows(
+                given.alloc,
+                given.files,
+                self.request,
+                given.program,
+                given.input,
+                given.out,
+                given.err,
+            )
         }
     }
 }

@@ -16,6 +16,7 @@ use Rattle.xb_measured.specs.Keyings.{digits_in}
 
 abbrev pub kind_word : DoubtKind → List ℕ
 kind_word kinds.LongGap = codes "LONG_GAP"
+kind_word kinds.ShortGap = codes "SHORT_GAP"
 kind_word kinds.LongKey = codes "LONG_KEY"
 kind_word kinds.ShortKey = codes "SHORT_KEY"
 
@@ -24,14 +25,14 @@ effect_word effects.Missing = codes "MISSING"
 effect_word effects.Extra = codes "EXTRA"
 effect_word effects.Cut = codes "CUT"
 
--- a doubt: the number of the key, which limit it breaks, what may be wrong, how many ms it has, and how many it should
+-- a doubt: the number of the key, what does not keep to the rhythm, what may be wrong, its ms, and those that are usual
 abbrev pub doubt_object : Doubt → Data
 doubt_object d = object
     (member (codes "key") (number (unsigned d.key))
     (member (codes "kind") (string (kind_word d.kind))
     (member (codes "may_be") (string (effect_word d.effect))
     (member (codes "ms") (number (unsigned d.ms))
-    (member (codes "wanted_ms") (number (unsigned d.wanted)) no_members)))))
+    (member (codes "usual_ms") (number (unsigned d.usual)) no_members)))))
 
 -- a keying ends with its last key
 abbrev pub ended_ms : List Heard → ℕ

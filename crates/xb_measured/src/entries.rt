@@ -24,6 +24,7 @@ impl DoubtKind {
     {
         match self {
             DoubtKind::LongGap => "LONG_GAP",
+            DoubtKind::ShortGap => "SHORT_GAP",
             DoubtKind::LongKey => "LONG_KEY",
             DoubtKind::ShortKey => "SHORT_KEY",
         }
@@ -55,7 +56,7 @@ fn doubt_object(alloc: Global, doubt: &Doubt) -> Result<Value, AllocError>
         ("kind", Member::Word(doubt.kind.word())),
         ("may_be", Member::Word(doubt.effect.word())),
         ("ms", Member::Number(doubt.ms)),
-        ("wanted_ms", Member::Number(doubt.wanted)),
+        ("usual_ms", Member::Number(doubt.usual)),
     ];
     object_of(alloc, &members)
 }

@@ -63,15 +63,15 @@ pub(crate) fn end_ms(key: Heard) -> u64
     ms_of(HOP * u128::from(key.past) + PAST_HOP)
 }
 
-// How long a key lasted.
-fn length_ms(key: Heard) -> u64
+/// How long a key lasted, in ms.
+pub(crate) fn length_ms(key: Heard) -> u64
     ensures { result ≡ length_ms key }
 {
     ms_of(HOP * u128::from(key.past.saturating_sub(key.first)) + HOP)
 }
 
-// The time between the last key and this one.
-fn gap_ms(before: Option<Heard>, key: Heard) -> Option<u64>
+/// The time between the last key and this one, in ms.
+pub(crate) fn gap_ms(before: Option<Heard>, key: Heard) -> Option<u64>
     ensures { result ≡ gap_ms before key }
 {
     let before = before?;

@@ -2,26 +2,26 @@
 ghost use Rattle.std.specs.Prelude.{◌≡◌, ◌≤◌, length};
 ghost use Rattle.xb_measured.specs.Blanks.{blank_by, blank_of, blanks_after, place_of};
 
-use xb_ear::{Heard as HeardKey, Receiver as Ear, TAIL_WINDOWS};
+use xb_ear::{Heard as HeardKey, Receiver as Ear, Sight, TAIL_WINDOWS};
 
-// 1 where two windows in a row hold nothing.
-fn blank_by(before: u64, held: u64) -> u64
-    ensures value { result ≡ blank_by before held }
+// 1 where two windows in a row see no pair.
+fn blank_by(was_blank: bool, held: Option<Sight>) -> u64
+    ensures value { result ≡ blank_by was_blank held }
     ensures bound { result ≤ 1 }
 {
-    if before.max(held) == 0 { 1 } else { 0 }
+    if was_blank && held.is_none() { 1 } else { 0 }
 }
 
 // How many windows see no pair, as the one before each does; the first has none before it.
-fn blanks_in(held: &[u64]) -> u64
+fn blanks_in(held: &[Option<Sight>]) -> u64
     requires { length held.now ≤ 64 }
-    ensures { result ≡ blanks_after 1 held.now }
+    ensures { result ≡ blanks_after false held.now }
 {
     let mut blanks = 0u64;
-    let mut before = 1u64;
-    for strength in held {
-        blanks += blank_by(before, *strength);
-        before = *strength;
+    let mut was_blank = false;
+    for sight in held {
+        blanks += blank_by(was_blank, *sight);
+        was_blank = sight.is_none();
     }
     blanks
 }

@@ -16,14 +16,18 @@
 //! - `Meter`: how loud a sound is in which no key was heard (`quiet_line`).
 //! - `seconds_text`: a time in seconds.
 //! - `laws::tenths_are_nearest`: the tenths of a dB of a level are the nearest to its decibels.
-//!   `levels_are_as_worked`: levels in dBm0, as worked by hand.
+//!   `levels_are_as_worked`: levels in dBm0, as worked by hand. `verdicts_are_as_worked`: so with the figures that System
+//!   R1 takes.
+//! - `laws::times_are_of_sounds`: the measured times of a key are those of its sound, to some ms; `holes_are_gaps`: a hole
+//!   is as long as a gap.
 //!
 //! What is told of the keyings that were heard in a sound: what is doubtful of each, and an object of JSON.
 //!
 //! - `NamedKey`: a key that was heard, and what it stands for. `write_loose`: the line of one that is in no keying.
-//! - `doubts_text`: a line for each doubt of a keying (`doubts_of`), with what may be wrong by it: one key may be missing
-//!   where two lie over `MOST_GAP_MS` apart or one lasts too long, one digit too many where it is too short, and a KP or
-//!   an ST that is too short may be cut.
+//! - `rhythm_of`: how long the keys of a keying and the gaps between them are, as is usual there.
+//! - `doubts_text`: a line where a key or a gap does not keep to that (`doubts_of`), with what may be wrong by it: one key
+//!   may be missing where a gap or a key is too long, one digit too many where either is too short, and an ST that is too
+//!   short may be cut.
 //! - `began_ms` and `ended_ms`: when a keying begins and ends.
 //! - `entry_object`: exactly the object of a keying as an entry, with its place in the sound, its digits and its
 //!   doubts.
@@ -56,6 +60,7 @@ mod meaning;
 mod meter;
 mod onsets;
 mod receiver;
+mod rhythm;
 mod seconds;
 mod strongest_stretch;
 mod tones;

@@ -1,5 +1,5 @@
 -- What a join does.
-use Rattle.std.specs.Prelude.{None, Some, Err, Ok}
+use Rattle.std.specs.Prelude.{Some, Err, Ok}
 use Rattle.std.specs.Io.KnownBytes.{Keeps}
 use Rattle.xb_command.specs.Files.{Bytes}
 use Rattle.xb_command.specs.Programs.{Streams}
@@ -11,6 +11,7 @@ use Rattle.xb_parts.specs.JoinedFiles.{Delivers}
 use Rattle.xb_parts.specs.JoinOptions.{NameNoFile, Say}
 use Rattle.xb_parts.specs.declared.join_fault.JoinFault.{JoinFault}
 use Rattle.xb_parts.specs.declared.join_words.JoinRequest.{JoinRequest}
+use Rattle.xb_parts.specs.FaultTexts.{join_text}
 
 -- exactly the page that the files make was written
 pub record WritesPage (request : JoinRequest) (bytes : Bytes) (old new : Streams) : Type 0 where
@@ -23,7 +24,7 @@ pub record HasFault (request : JoinRequest) (program : Program) (bytes : Bytes) 
   pub fault : JoinFault
   pub input : Keeps old.input new.input
   pub page : Delivers bytes request (Err fault) old.output new.output
-  pub line : Tells program.name.now None old.errors new.errors
+  pub line : Tells program.name.now (join_text fault) old.errors new.errors
 
 -- what the words ask for, which value is refused, and what is done; the input is not read
 abbrev pub by_join : Rules JoinRequest

@@ -1,3 +1,4 @@
+pub mod FaultTexts
 pub mod Parts
 pub mod Ranges
 pub mod Lists

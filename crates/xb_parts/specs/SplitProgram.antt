@@ -1,5 +1,5 @@
 -- What a split does.
-use Rattle.std.specs.Prelude.{ℕ, Bool, List, None, Option, Err, Ok}
+use Rattle.std.specs.Prelude.{ℕ, Bool, List, Option, Err, Ok}
 use Rattle.std.specs.Io.KnownBytes.{Keeps}
 use Rattle.xb_command.specs.Files.{Bytes}
 use Rattle.xb_command.specs.Programs.{Streams}
@@ -14,6 +14,7 @@ use Rattle.xb_parts.specs.PartDecks.{Decks}
 use Rattle.xb_parts.specs.SplitFaults.{Delivers}
 use Rattle.xb_parts.specs.declared.split_fault.SplitFault.{SplitFault}
 use Rattle.xb_parts.specs.declared.split_words.SplitRequest.{SplitRequest}
+use Rattle.xb_parts.specs.FaultTexts.{split_text}
 
 -- what is known of the folders of parts: whether one has anything in it, and what a deck has that was just made; then
 -- the decks that have their names, and the list of each folder before and after
@@ -47,7 +48,7 @@ pub record HasFault (folders : Folders) (request : SplitRequest) (program : Prog
       (Err fault) (folders.named request.folder.now) (folders.before request.folder.now)
       (folders.after request.folder.now)
   pub output : Keeps old.output new.output
-  pub line : Tells program.name.now None old.errors new.errors
+  pub line : Tells program.name.now (split_text fault) old.errors new.errors
 
 -- what the words ask for, and what is done; the input is not read
 abbrev pub by_split : Folders → Rules SplitRequest

@@ -10,7 +10,7 @@ use crate::join_words::{JoinRequest, misfit_of, request_of};
 use crate::joining::join;
 use std::alloc::Global;
 use std::io::{Read, Write};
-use xb_command::{Answer, Call, DONE, Files, Program, Source, Words, Work, tell_fault};
+use xb_command::{Answer, Call, DONE, Files, Given, Source, Words, Work, tell_fault};
 
 impl<'a> Work<'a> for JoinRequest<'a> {
     ghost use Rattle.xb_parts.specs.JoinProgram.{by_join};
@@ -35,18 +35,10 @@ impl<'a> Work<'a> for JoinRequest<'a> {
         Source::Input
     }
 
-    fn run<F: Files, R: Read, W: Write, E: Write>(
-        self,
-        alloc: Global,
-        program: &Program<'a>,
-        files: &F,
-        _input: &mut R,
-        out: &mut W,
-        err: &mut E,
-    ) -> u8 {
-        match join(alloc, files, &self, out) {
+    fn run<F: Files, R: Read, W: Write, E: Write>(self, given: Given<'_, 'a, F, R, W, E>) -> u8 {
+        match join(given.alloc, given.files, &self, given.out) {
             Ok(()) => DONE,
-            Err(fault) => tell_fault(alloc, err, program.name, fault),
+            Err(fault) => tell_fault(given.alloc, given.err, given.program.name, fault),
         }
     }
 }

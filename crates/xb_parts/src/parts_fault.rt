@@ -4,8 +4,8 @@ ghost use Rattle.xb_parts.specs.Joining.{fault_of_page};
 
 use crate::damage::Damage;
 use std::alloc::AllocError;
+use std::fmt;
 use thiserror::Error;
-use xb_model::RowFault;
 use xb_page::PageFault;
 
 /// Why pages can't be joined. Parts count from 1.
@@ -13,20 +13,38 @@ use xb_page::PageFault;
 pub enum PartsFault {
     /// The lines of this part don't begin where those of the part before it end, or are not lines of the
     /// office.
-    #[error("part {0}: its lines do not follow those of the part before")]
     Lines(usize),
     /// The page of this part is damaged.
-    #[error("part {0}: {1}")]
     Part(usize, Damage),
     /// The page of this part has a line that comes after those of the part.
-    #[error("part {0}: the page has a line of a later part")]
     PastEnd(usize),
     /// No part has this line.
-    #[error("no part has line {0}")]
     Missing(u16),
     /// Memory ran out.
-    #[error("{}", RowFault::NoMemory)]
     NoMemory,
+}
+
+impl fmt::Display for PartsFault {
+    ghost use Rattle.std.specs.Prelude.{Some};
+    ghost use Rattle.xb_parts.specs.FaultTexts.{parts_text};
+
+    ghost output = { λ fault. Some (parts_text fault) };
+
+    fn fmt<W: fmt::Write>(&self, f: &mut fmt::Formatter<W>) -> fmt::Result {
+        match self {
+            PartsFault::Lines(part) => write!(
+                f,
+                "part {part}: its lines do not follow those of the part before"
+            ),
+            PartsFault::Part(part, fault) => write!(f, "part {part}: {fault}"),
+            PartsFault::PastEnd(part) => write!(
+                f,
+                "part {part}: the page has a line of a later part"
+            ),
+            PartsFault::Missing(line) => write!(f, "no part has line {line}"),
+            PartsFault::NoMemory => f.write_str("out of memory"),
+        }
+    }
 }
 
 impl From<AllocError> for PartsFault {

@@ -11,20 +11,33 @@ ghost use Rattle.xb_parts.specs.Plans.{AreAsked, AreEnough, FitDecks, IsLeast, I
 use crate::load::Load;
 use crate::range::LineRange;
 use std::alloc::{AllocError, AllocFailed, Global};
+use std::fmt;
 use thiserror::Error;
 use xb_deck::MOST_DECK_BYTES;
-use xb_model::{LINES, LineNo, PerLine, RowFault};
+use xb_model::{LINES, LineNo, PerLine};
 use xb_rows::MOST_RECORDS;
 
 /// Why there is no plan.
 #[derive(Clone, Copy, Debug, PartialEq, Eq, Error)]
 pub enum PlanFault {
     /// This line alone has more than a part may have.
-    #[error("line {} has more than a part may have", .0.get())]
     Line(LineNo),
     /// Memory ran out.
-    #[error("{}", RowFault::NoMemory)]
     NoMemory,
+}
+
+impl fmt::Display for PlanFault {
+    ghost use Rattle.std.specs.Prelude.{Some};
+    ghost use Rattle.xb_parts.specs.FaultTexts.{plan_text};
+
+    ghost output = { λ fault. Some (plan_text fault) };
+
+    fn fmt<W: fmt::Write>(&self, f: &mut fmt::Formatter<W>) -> fmt::Result {
+        match self {
+            PlanFault::Line(line) => write!(f, "line {} has more than a part may have", line.get()),
+            PlanFault::NoMemory => f.write_str("out of memory"),
+        }
+    }
 }
 
 impl From<AllocFailed<LineRange>> for PlanFault {
@@ -87,11 +100,23 @@ const HEAD_BYTES: usize = 18;
 #[derive(Clone, Copy, Debug, PartialEq, Eq, Error)]
 pub enum PlanPartsFault {
     /// The table leaves no room for records.
-    #[error("the route table is too long")]
     Table,
     /// There is no plan.
-    #[error("{0}")]
     Plan(PlanFault),
+}
+
+impl fmt::Display for PlanPartsFault {
+    ghost use Rattle.std.specs.Prelude.{Some};
+    ghost use Rattle.xb_parts.specs.FaultTexts.{plan_parts_text};
+
+    ghost output = { λ fault. Some (plan_parts_text fault) };
+
+    fn fmt<W: fmt::Write>(&self, f: &mut fmt::Formatter<W>) -> fmt::Result {
+        match self {
+            PlanPartsFault::Table => f.write_str("the route table is too long"),
+            PlanPartsFault::Plan(fault) => write!(f, "{fault}"),
+        }
+    }
 }
 
 // What the records of a part may have after a table of so many bytes.

@@ -5,7 +5,7 @@ ghost use Rattle.xb_parts.specs.SplitFaults.{HasParts, HasTable, IsFaultOf};
 
 use crate::planning::PlanPartsFault;
 use crate::writing::WriteRowsFault;
-use std::io;
+use std::{fmt, io};
 use thiserror::Error;
 use xb_command::InOneLine;
 use xb_deck::TableFault;
@@ -16,55 +16,83 @@ use xb_routes::RouteFault;
 #[derive(Debug, Drop, Error)]
 pub enum MakeFault {
     /// Their folder could not be made, under another name.
-    #[error("the folder with .incomplete after its name could not be made: {0}")]
     Folder(io::Error),
     /// One of them could not be made in it.
-    #[error("a part could not be made: {0}")]
     Part(io::Error),
+}
+
+impl fmt::Display for MakeFault {
+    ghost use Rattle.xb_parts.specs.FaultTexts.{make_text};
+
+    ghost output = { make_text };
+
+    fn fmt<W: fmt::Write>(&self, f: &mut fmt::Formatter<W>) -> fmt::Result {
+        match self {
+            MakeFault::Folder(error) => write!(
+                f,
+                "the folder with .incomplete after its name could not be made: {error}"
+            ),
+            MakeFault::Part(error) => write!(f, "a part could not be made: {error}"),
+        }
+    }
 }
 
 /// Why a deck is not split.
 #[derive(Debug, Drop, Error)]
 pub enum SplitFault {
     /// The deck could not be opened.
-    #[error("the deck could not be opened: {0}")]
     Deck(io::Error),
     /// The folder could not be looked at, or the parts could not get its name.
-    #[error("the folder could not be used: {0}")]
     Folder(io::Error),
     /// The decks of the parts could not be made.
-    #[error("{0}")]
     Make(MakeFault),
     /// The folder has something in it.
-    #[error("the folder is not empty")]
     NotEmpty,
     /// The deck gives no text of a route table.
-    #[error("{0}")]
     Table(TableFault),
     /// The table is one that an office refuses.
-    #[error("route table: {0}")]
     Routes(RouteFault),
     /// The records have a fault.
-    #[error("loop rows: {0}")]
     Rows(RowFault),
     /// There is no plan.
-    #[error("{0}")]
     Plan(PlanPartsFault),
     /// No parts were asked for.
-    #[error("a deck has at least one part")]
     NoParts,
     /// There would be so many parts, which is more than files may be held open.
-    #[error("there would be {0} parts, and the most is 500")]
     TooMany(usize),
     /// A part could not be written.
-    #[error("a part could not be written: {0}")]
     Write(io::Error),
     /// The deck was another when it was read again: its table, its records, or a line's.
-    #[error("the deck has changed while it was split")]
     Changed,
     /// Memory ran out after the table was read.
-    #[error("{}", RowFault::NoMemory)]
     NoMemory,
+}
+
+impl fmt::Display for SplitFault {
+    ghost use Rattle.xb_parts.specs.FaultTexts.{split_text};
+
+    ghost output = { split_text };
+
+    fn fmt<W: fmt::Write>(&self, f: &mut fmt::Formatter<W>) -> fmt::Result {
+        match self {
+            SplitFault::Deck(error) => write!(f, "the deck could not be opened: {error}"),
+            SplitFault::Folder(error) => write!(f, "the folder could not be used: {error}"),
+            SplitFault::Make(fault) => write!(f, "{fault}"),
+            SplitFault::NotEmpty => f.write_str("the folder is not empty"),
+            SplitFault::Table(fault) => write!(f, "{fault}"),
+            SplitFault::Routes(fault) => write!(f, "route table: {fault}"),
+            SplitFault::Rows(fault) => write!(f, "loop rows: {fault}"),
+            SplitFault::Plan(fault) => write!(f, "{fault}"),
+            SplitFault::NoParts => f.write_str("a deck has at least one part"),
+            SplitFault::TooMany(number) => write!(
+                f,
+                "there would be {number} parts, and the most is 500"
+            ),
+            SplitFault::Write(error) => write!(f, "a part could not be written: {error}"),
+            SplitFault::Changed => f.write_str("the deck has changed while it was split"),
+            SplitFault::NoMemory => f.write_str("out of memory"),
+        }
+    }
 }
 
 /// That the deck of this name could not be opened, and why.

@@ -1,10 +1,11 @@
 // A split: its words and files in, a status and the decks of parts out.
-ghost use Rattle.std.specs.Prelude.{◌≡◌, true, IfErr, IfOk, List, None, ℕ};
+ghost use Rattle.std.specs.Prelude.{◌≡◌, true, IfErr, IfOk, List, ℕ};
 ghost use Rattle.clap.specs.Faults.{is_simple_and_free};
 ghost use Rattle.xb_command.specs.Programs.{streams};
 ghost use Rattle.xb_command.specs.Tables.{command_by};
 ghost use Rattle.xb_command.specs.Telling.{Tells};
 ghost use Rattle.xb_command.specs.Works.{AttendsBy, IsWrong};
+ghost use Rattle.xb_parts.specs.FaultTexts.{split_text};
 ghost use Rattle.xb_parts.specs.SplitProgram.{AskNothing, Asks, by_split};
 ghost use Rattle.xb_parts.specs.Splits.{LeavesNone};
 
@@ -35,7 +36,7 @@ fn ask<'a>(alloc: Global, call: &Call<'a>) -> Result<SplitRequest<'a>, Answer<'a
 // Tells a fault in a line, with the name of a deck that could not be opened.
 fn tell<E: Write>(alloc: Global, err: &mut E, program: &str, big: &str, fault: SplitFault) -> u8
     ensures status { result ≡ FAULT }
-    ensures line { Tells program.now None (E.contents err.old) (E.contents err.new) }
+    ensures line { Tells program.now (split_text fault) (E.contents err.old) (E.contents err.new) }
 {
     match fault {
         SplitFault::Deck(error) => tell_fault(alloc, err, program, Unopened(big, error)),

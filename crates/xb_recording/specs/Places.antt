@@ -4,6 +4,7 @@ use Rattle.xb_recording.specs.declared.reader.Reader.{Reader}
 use Rattle.xb_recording.specs.declared.reader.Source.{Source}
 use Rattle.xb_recording.specs.declared.reader.Source.TheVariants as sources
 use Rattle.xb_samples.specs.Samples.{bits_state}
+use Rattle.xb_samples.specs.declared.sound.TheConstants.{FIRST_TICK}
 use Rattle.xb_samples.specs.Sounds.{sound_state}
 
 -- one more, up to the greatest number that is counted
@@ -25,7 +26,7 @@ line_number reader = one_more reader.lines
 -- the sample that comes next, counted from 1, where the samples have begun
 abbrev pub sample_number : Source → Option ℕ
 sample_number (sources.Bits bits) = Some (one_more (bits_state bits).count)
-sample_number (sources.Sound sound) = Some (one_more (sound_state sound).count)
+sample_number (sources.Sound sound) = Some (one_more ((sound_state sound).count - FIRST_TICK))
 sample_number (sources.Vcd vcd) = None
 sample_number (sources.Columns table) = None
 sample_number (sources.Gpiomon gpiomon) = None

@@ -5,7 +5,7 @@ use crate::routing::route;
 use crate::words::{Request, request_of};
 use std::alloc::Global;
 use std::io::{Read, Write};
-use xb_command::{Answer, Call, DONE, Files, Program, Source, Words, Work, tell_fault};
+use xb_command::{Answer, Call, DONE, Files, Given, Source, Words, Work, tell_fault};
 
 impl<'a> Work<'a> for Request<'a> {
     ghost use Rattle.xb_route.specs.Program.{by_route};
@@ -21,18 +21,10 @@ impl<'a> Work<'a> for Request<'a> {
         Source::Input
     }
 
-    fn run<F: Files, R: Read, W: Write, E: Write>(
-        self,
-        alloc: Global,
-        program: &Program<'a>,
-        files: &F,
-        input: &mut R,
-        out: &mut W,
-        err: &mut E,
-    ) -> u8 {
-        match route(alloc, files, &self, input, out) {
+    fn run<F: Files, R: Read, W: Write, E: Write>(self, given: Given<'_, 'a, F, R, W, E>) -> u8 {
+        match route(given.alloc, given.files, &self, given.input, given.out) {
             Ok(()) => DONE,
-            Err(fault) => tell_fault(alloc, err, program.name, fault),
+            Err(fault) => tell_fault(given.alloc, given.err, given.program.name, fault),
         }
     }
 }

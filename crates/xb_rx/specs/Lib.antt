@@ -1,4 +1,5 @@
 pub mod Constants
+pub mod FaultTexts
 pub mod Samples
 pub mod Streams
 pub mod Starts

@@ -8,7 +8,7 @@ use std::alloc::{AllocError, Global};
 use std::io::Write;
 use std::slice;
 use xb_measured::{Heard, NamedKey};
-use xb_shown::{Picture, Sections, Title};
+use xb_shown::{Part, Picture, Sections, Title};
 use xb_text::write_whole;
 
 /// What parts of keys are shown on.
@@ -22,24 +22,17 @@ pub(crate) enum Sheet {
 
 impl Sheet {
     ghost use Rattle.std.specs.Prelude.{◌∷◌, [], OnOk, string_bytes};
-    ghost use Rattle.xb_shown.specs.Pictures.{part_of};
+    ghost use Rattle.xb_shown.specs.Pictures.{part_in};
     ghost use Rattle.xb_rx.specs.Shown.{Shows, ShowsAll};
 
     // Takes keys and what they are, by the last key before them, and puts what is then plain after the text.
-    fn take(
-        &mut self,
-        alloc: Global,
-        out: &mut String,
-        title: Title,
-        before: Option<Heard>,
-        keys: &[NamedKey],
-    ) -> Result<(), AllocError>
-        ensures { OnOk result (Shows self.old (part_of title before keys.now ∷ []) self.new []
+    fn take(&mut self, alloc: Global, out: &mut String, part: &Part<'_>) -> Result<(), AllocError>
+        ensures { OnOk result (Shows self.old (part_in part.now ∷ []) self.new []
             (string_bytes out.old) (string_bytes out.new)) }
     {
         match self {
-            Sheet::Page(page) => page.take(alloc, out, title, before, keys),
-            Sheet::Picture(picture) => picture.take(alloc, title, before, keys),
+            Sheet::Page(page) => page.take(alloc, out, part),
+            Sheet::Picture(picture) => picture.take(alloc, part),
         }
     }
 
@@ -82,7 +75,12 @@ fn show_loose(
     let mut last = before;
     for key in keys {
         let heard = key.heard();
-        sheet.take(alloc, out, Title::Loose, last, slice::from_ref(key))?;
+        let part = Part {
+            title: Title::Loose,
+            before: last,
+            keys: slice::from_ref(key),
+        };
+        sheet.take(alloc, out, &part)?;
         last = Some(heard);
     }
     Ok(last)
@@ -134,8 +132,12 @@ impl Parts {
         let heard = key.heard();
         self.keep(key)?;
         let number = self.count + 1;
-        self.sheet
-            .take(alloc, out, Title::Entry(number), self.last, &self.begun)?;
+        let part = Part {
+            title: Title::Entry(number),
+            before: self.last,
+            keys: &self.begun,
+        };
+        self.sheet.take(alloc, out, &part)?;
         self.count = number;
         self.last = Some(heard);
         self.begun.clear();

@@ -11,7 +11,7 @@ use crate::words::asked_of;
 use std::alloc::Global;
 use std::io::{Read, Write};
 use xb_command::{
-    Answer, Call, DONE, Files, Program, Source, Words, Work, file_source, tell_fault,
+    Answer, Call, DONE, Files, Given, Program, Source, Words, Work, file_source, tell_fault,
 };
 
 // Does what is asked for, and returns the status of the process.
@@ -60,29 +60,21 @@ impl<'a> Work<'a> for Asked<'a> {
     }
 
     #[tactic(auto, using(crate::proofs::Formed::formed))]
-    fn run<F: Files, R: Read, W: Write, E: Write>(
-        self,
-        alloc: Global,
-        program: &Program<'a>,
-        files: &F,
-        input: &mut R,
-        out: &mut W,
-        err: &mut E,
-    ) -> u8 {
+    fn run<F: Files, R: Read, W: Write, E: Write>(self, given: Given<'_, 'a, F, R, W, E>) -> u8 {
         let request = Request {
             written: self.written,
             since: self.since,
             input: self.input,
         };
         answer(
-            alloc,
+            given.alloc,
             request,
             self.against,
-            program,
-            files,
-            input,
-            out,
-            err,
+            given.program,
+            given.files,
+            given.input,
+            given.out,
+            given.err,
         )
     }
 }

@@ -8,7 +8,7 @@ use Rattle.xb_riff.specs.declared.coding.Coding.{Coding}
 use Rattle.xb_samples.specs.declared.sound.Channel.{Channel}
 use Rattle.xb_samples.specs.declared.sound.Sound.{Sound}
 use Rattle.xb_samples.specs.Pieces.{SamplesSay, after_piece, samples_events, without_waits}
-use Rattle.xb_samples.specs.Sounds.{SoundSays, SoundState, begun_sound, bytes_say, end_fault, begun_after, own_bytes, samples_after, samples_left, samples_of, sound_begins, sound_fault, sound_reading, sound_says, sound_state, unless, wires_of, wires_say}
+use Rattle.xb_samples.specs.Sounds.{SoundSays, SoundState, begun_sound, bytes_say, end_fault, begun_after, own_bytes, rests_said, samples_after, samples_left, samples_of, sound_begins, sound_fault, sound_reading, sound_says, sound_state, unless, wires_of, wires_say}
 use Rattle.xb_samples.specs.Tails.{IsNewTail, follows_more, left_after, more_follows}
 use Rattle.xb_samples.proofs.SoundLemmas.{none-after, samples_left-append}
 use Rattle.xb_samples.proofs.TailLemmas.{left-then, new_tail}
@@ -62,7 +62,7 @@ fault_is sound =
     ∙ ap (λ (s : List ℤ). end_fault sound.left (follows_more sound.tail []) (after_piece sound_reading (sound_state sound) s)) (no-samples sound)
 
 pub sound_ends :
-    (sound : Sound) (said : List Event) → said ≡ At sound.count ∷ []
+    (sound : Sound) (said : List Event) → said ≡ At sound.count ∷ rests_said 0 sound.wires.items
     → None ≡ end_fault sound.left (follows_more sound.tail []) (sound_state sound) → SoundSays sound [] said
 sound_ends sound said is none =
     let P : List ℤ → Type 0 = λ s. SamplesSay sound_reading (sound_state sound) s said in

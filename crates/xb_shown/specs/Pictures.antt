@@ -3,6 +3,7 @@ use Rattle.std.specs.Prelude.{ℕ, ◌+◌, ◌-◌, ◌^◌, ◌==◌, min, Lis
 use Rattle.std.specs.List.{flat_map}
 use Rattle.xb_measured.specs.declared.heard.Heard.{Heard}
 use Rattle.xb_shown.specs.declared.heading.Title.{Title}
+use Rattle.xb_shown.specs.declared.part.Part.{Part as Shown}
 use Rattle.xb_shown.specs.declared.picture.TheConstants.{MOST_DRAWN}
 use Rattle.xb_shown.specs.Keyings.{part_words}
 
@@ -14,6 +15,9 @@ pub record Part : Type 0 where
 
 abbrev pub part_of : Title → Option Heard → List Heard → Part
 part_of title before keys = record { title = title; before = before; keys = keys }
+
+abbrev pub part_in : Shown → Part
+part_in shown = part_of shown.title shown.before shown.keys.now
 
 -- what is said of parts, one below the other
 abbrev pub parts_words : List Part → List (List ℕ)

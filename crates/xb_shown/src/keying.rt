@@ -5,8 +5,9 @@ ghost use Rattle.xb_shown.specs.Keyings.{key_words, keys_words, part_words};
 
 use crate::bars::{put_name, put_tones};
 use crate::ground::put_ground;
-use crate::heading::{Title, put_heading};
+use crate::heading::put_heading;
 use crate::misses::put_misses;
+use crate::part::Part;
 use crate::places::{WIDTH, row_top};
 use crate::rows::{PlacedKey, row_below, row_for};
 use std::alloc::{AllocError, Global};
@@ -56,15 +57,13 @@ pub(crate) fn put_part(
     alloc: Global,
     out: &mut Vec<Element>,
     first: u32,
-    title: Title,
-    before: Option<Heard>,
-    keys: &[NamedKey],
+    part: &Part<'_>,
 ) -> Result<u32, AllocError>
     ensures { OnOk result (says out.new.items
-        ≡ says out.old.items ++ part_words title before keys.now) }
+        ≡ says out.old.items ++ part_words part.now.title part.now.before part.now.keys.now) }
 {
-    put_heading(alloc, out, first, title, keys)?;
-    put_keys(alloc, out, first, before, keys)
+    put_heading(alloc, out, first, part.title, part.keys)?;
+    put_keys(alloc, out, first, part.before, part.keys)
 }
 
 /// Puts a picture of keys, and of what they are, after the text, by the last key before them: an SVG element. `Err` says
@@ -72,14 +71,13 @@ pub(crate) fn put_part(
 pub(crate) fn push_keying(
     alloc: Global,
     out: &mut String,
-    title: Title,
-    before: Option<Heard>,
-    keys: &[NamedKey],
+    part: &Part<'_>,
 ) -> Result<(), AllocError>
-    ensures { OnOk result (PutsBy (λ looks. drawing_text looks (part_words title before keys.now))
+    ensures { OnOk result (PutsBy
+        (λ looks. drawing_text looks (part_words part.now.title part.now.before part.now.keys.now))
         (string_bytes out.old) (string_bytes out.new)) }
 {
     let mut drawn = Vec::new(alloc);
-    let rows = put_part(alloc, &mut drawn, 0, title, before, keys)?;
+    let rows = put_part(alloc, &mut drawn, 0, part)?;
     push_drawing(out, WIDTH, row_top(rows), &drawn)
 }

@@ -22,6 +22,7 @@ pub mod laws;
 mod looks;
 mod misses;
 mod page;
+mod part;
 mod picture;
 mod places;
 mod rows;
@@ -29,5 +30,6 @@ mod sections;
 mod sheet;
 
 pub use heading::Title;
+pub use part::Part;
 pub use picture::{MOST_DRAWN, Picture};
 pub use sections::Sections;

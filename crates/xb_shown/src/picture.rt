@@ -3,14 +3,13 @@ ghost use Rattle.std.specs.Prelude.{◌≡◌, ◌++◌, IfOk, OnOk, string_byte
 ghost use Rattle.xb_svg.specs.Drawings.{says};
 ghost use Rattle.xb_shown.specs.Pictures.{others_text, others_words};
 
-use crate::heading::Title;
 use crate::keying::put_part;
 use crate::looks::RED_HEAD;
+use crate::part::Part;
 use crate::places::{LEFT, WIDTH, row_top};
 use crate::sheet::put_text;
 use std::alloc::{AllocError, Global};
 use std::marker::Model;
-use xb_measured::{Heard, NamedKey};
 use xb_svg::{Element, push_drawing};
 
 /// How many keyings and loose keys are drawn in one picture at most.
@@ -71,7 +70,7 @@ impl Picture {
     ghost use Rattle.std.specs.Prelude.{◌≡◌, ◌++◌, ◌∷◌, [], IfErr, List, OnOk, string_bytes};
     ghost use Rattle.xb_svg.specs.Drawings.{PutsBy, drawing_text};
     ghost use Rattle.xb_shown.specs.Keyings.{part_words};
-    ghost use Rattle.xb_shown.specs.Pictures.{Part, nothing_drawn, part_of, picture_rest};
+    ghost use Rattle.xb_shown.specs.Pictures.{Part as ShownPart, nothing_drawn, part_in, picture_rest};
 
     /// With nothing in it.
     pub fn new(alloc: Global) -> Picture
@@ -85,20 +84,14 @@ impl Picture {
     }
 
     // Draws keys and what they are, by the last key before them, below what is drawn.
-    fn draw(
-        &mut self,
-        alloc: Global,
-        title: Title,
-        before: Option<Heard>,
-        keys: &[NamedKey],
-    ) -> Result<(), AllocError>
+    fn draw(&mut self, alloc: Global, part: &Part<'_>) -> Result<(), AllocError>
         ensures words { OnOk result (self.new.words
-            ≡ self.old.words ++ part_words title before keys.now) }
+            ≡ self.old.words ++ part_words part.now.title part.now.before part.now.keys.now) }
         ensures count { OnOk result (self.new.came ≡ self.old.came) }
         ensures kept { IfErr result (λ _. self.new ≡ self.old) }
     {
         let mut drawn = Vec::new(alloc);
-        let rows = put_part(alloc, &mut drawn, self.rows, title, before, keys)?;
+        let rows = put_part(alloc, &mut drawn, self.rows, part)?;
         self.elements.append(&mut drawn)?;
         self.rows = rows;
         Ok(())
@@ -106,22 +99,16 @@ impl Picture {
 
     /// Takes keys and what they are, by the last key before them, and draws them if there is room. `Err` says that
     /// memory ran out; the picture stays as it was then.
-    pub fn take(
-        &mut self,
-        alloc: Global,
-        title: Title,
-        before: Option<Heard>,
-        keys: &[NamedKey],
-    ) -> Result<(), AllocError>
-        ensures drawn { (later : List Part) → OnOk result
-            (picture_rest self.new later ≡ picture_rest self.old (part_of title before keys.now ∷ later)) }
+    pub fn take(&mut self, alloc: Global, part: &Part<'_>) -> Result<(), AllocError>
+        ensures drawn { (later : List ShownPart) → OnOk result
+            (picture_rest self.new later ≡ picture_rest self.old (part_in part.now ∷ later)) }
         ensures kept { IfErr result (λ _. self.new ≡ self.old) }
     {
         if self.came >= MOST_DRAWN {
             self.came = self.came.saturating_add(1);
             return Ok(());
         }
-        self.draw(alloc, title, before, keys)?;
+        self.draw(alloc, part)?;
         self.came += 1;
         Ok(())
     }

@@ -1,9 +1,8 @@
 // A page in HTML, section by section.
-use crate::heading::Title;
 use crate::page::{push_page_end, push_page_start, push_part};
+use crate::part::Part;
 use std::alloc::{AllocError, Global};
 use std::marker::Model;
-use xb_measured::{Heard, NamedKey};
 
 /// A page in HTML whose sections come one by one. It holds none of them.
 #[derive(Drop)]
@@ -24,7 +23,7 @@ impl Model for Sections {
 impl Sections {
     ghost use Rattle.std.specs.Prelude.{◌≡◌, ◌++◌, false, true, IfErr, OnOk, string_bytes};
     ghost use Rattle.xb_svg.specs.Drawings.{PutsBy};
-    ghost use Rattle.xb_shown.specs.Pictures.{part_of};
+    ghost use Rattle.xb_shown.specs.Pictures.{part_in};
     ghost use Rattle.xb_shown.specs.Sections.{end_text, section_text, unbegun_text};
 
     /// Before the page is begun.
@@ -51,18 +50,16 @@ impl Sections {
         &mut self,
         alloc: Global,
         out: &mut String,
-        title: Title,
-        before: Option<Heard>,
-        keys: &[NamedKey],
+        part: &Part<'_>,
     ) -> Result<(), AllocError>
         ensures text { OnOk result (PutsBy
-            (λ looks. unbegun_text self.old ++ section_text looks (part_of title before keys.now))
+            (λ looks. unbegun_text self.old ++ section_text looks (part_in part.now))
             (string_bytes out.old) (string_bytes out.new)) }
         ensures begun { OnOk result (self.new ≡ true) }
         ensures kept { IfErr result (λ _. self.new ≡ self.old) }
     {
         self.begin(out)?;
-        push_part(alloc, out, title, before, keys)?;
+        push_part(alloc, out, part)?;
         self.is_begun = true;
         Ok(())
     }

@@ -2,6 +2,7 @@
 ghost use Rattle.std.specs.Prelude.{◌≡◌, ◌↔◌, IsOk, IfErr, IsTrue};
 ghost use Rattle.xb_sound.specs.Cadences.{standard_cadence, IsLawful, IsFirstMisfit, IsSetApart, IsToneTime, tone_ms};
 
+use std::fmt;
 use thiserror::Error;
 use xb_model::Key;
 
@@ -28,17 +29,29 @@ pub struct Cadence {
 #[derive(Clone, Copy, Debug, PartialEq, Eq, Error)]
 pub enum CadenceFault {
     /// The silence before KP is too long.
-    #[error("the silence before KP is too long")]
     Lead,
     /// The tone of KP has 0 ms, or is too long.
-    #[error("the tone of KP has 0 ms or is too long")]
     Kp,
     /// The tone of a digit and of ST has 0 ms, or is too long.
-    #[error("the tone of a digit has 0 ms or is too long")]
     Key,
     /// The silence after a tone is too long.
-    #[error("the silence after a tone is too long")]
     Gap,
+}
+
+impl fmt::Display for CadenceFault {
+    ghost use Rattle.std.specs.Prelude.{Some};
+    ghost use Rattle.xb_sound.specs.FaultTexts.{cadence_text};
+
+    ghost output = { λ fault. Some (cadence_text fault) };
+
+    fn fmt<W: fmt::Write>(&self, f: &mut fmt::Formatter<W>) -> fmt::Result {
+        match self {
+            CadenceFault::Lead => f.write_str("the silence before KP is too long"),
+            CadenceFault::Kp => f.write_str("the tone of KP has 0 ms or is too long"),
+            CadenceFault::Key => f.write_str("the tone of a digit has 0 ms or is too long"),
+            CadenceFault::Gap => f.write_str("the silence after a tone is too long"),
+        }
+    }
 }
 
 // Whether a tone may last so long.

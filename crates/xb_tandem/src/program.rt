@@ -9,7 +9,7 @@ use crate::words::{asked_by, misfit_of, options_of};
 use std::alloc::{AllocError, Global};
 use std::io::{Read, Write};
 use xb_command::{
-    Answer, Call, DONE, Files, Program, Source, Words, Work, file_source, tell_fault,
+    Answer, Call, DONE, Files, Given, Program, Source, Words, Work, file_source, tell_fault,
 };
 use xb_text::write_whole;
 
@@ -69,18 +69,23 @@ impl<'a> Work<'a> for Asked<'a> {
         file_source(self.keys)
     }
 
-    fn run<F: Files, R: Read, W: Write, E: Write>(
-        self,
-        alloc: Global,
-        program: &Program<'a>,
-        files: &F,
-        input: &mut R,
-        out: &mut W,
-        err: &mut E,
-    ) -> u8 {
-        match relay(alloc, files, self.table, self.request, input, out) {
-            Ok(left) => tell_note(alloc, err, program, self.request.form, left),
-            Err(fault) => tell_fault(alloc, err, program.name, fault),
+    fn run<F: Files, R: Read, W: Write, E: Write>(self, given: Given<'_, 'a, F, R, W, E>) -> u8 {
+        match relay(
+            given.alloc,
+            given.files,
+            self.table,
+            self.request,
+            given.input,
+            given.out,
+        ) {
+            Ok(left) => tell_note(
+                given.alloc,
+                given.err,
+                given.program,
+                self.request.form,
+                left,
+            ),
+            Err(fault) => tell_fault(given.alloc, given.err, given.program.name, fault),
         }
     }
 }

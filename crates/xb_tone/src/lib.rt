@@ -8,7 +8,8 @@
 //!   loud, and nothing is read.
 //! - `play_at`: the same of entries that lie in time, each at its time; what is cut is told before.
 //! - `attend`: `AttendsBy` of this, beginning at the words as they are typed.
-//! - `laws::mu_law_keys_are_heard`: keys by mu-law are.
+//! - `laws::mu_law_keys_are_heard`: keys by mu-law are. `shapes_are_sounded`: a key that is detuned, with one tone late or
+//!   with a hole, sounds as was asked for.
 //!
 //! Not said: how much memory a run takes.
 //!

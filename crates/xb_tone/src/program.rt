@@ -6,9 +6,7 @@ use crate::request::Asked;
 use crate::words::asked_of;
 use std::alloc::Global;
 use std::io::{Read, Write};
-use xb_command::{
-    Answer, Call, DONE, Files, Program, Source, Words, Work, tell_fault, text_source,
-};
+use xb_command::{Answer, Call, DONE, Files, Given, Source, Words, Work, tell_fault, text_source};
 
 impl<'a> Work<'a> for Asked<'a> {
     ghost use Rattle.xb_tone.specs.Program.{by_tone};
@@ -26,18 +24,10 @@ impl<'a> Work<'a> for Asked<'a> {
         text_source(self.page)
     }
 
-    fn run<F: Files, R: Read, W: Write, E: Write>(
-        self,
-        alloc: Global,
-        program: &Program<'a>,
-        _files: &F,
-        input: &mut R,
-        out: &mut W,
-        err: &mut E,
-    ) -> u8 {
-        match play_asked(alloc, self, input, out, err) {
+    fn run<F: Files, R: Read, W: Write, E: Write>(self, given: Given<'_, 'a, F, R, W, E>) -> u8 {
+        match play_asked(given.alloc, self, given.input, given.out, given.err) {
             Ok(()) => DONE,
-            Err(fault) => tell_fault(alloc, err, program.name, fault),
+            Err(fault) => tell_fault(given.alloc, given.err, given.program.name, fault),
         }
     }
 }

@@ -1,7 +1,7 @@
 // The program `mfbench`, and what it prints of a recording.
 use std::alloc::Global;
 use std::test::Fail;
-use test_kit::{Folder, Gives, Halting, Program, Short, check_status};
+use test_kit::{Folder, Gives, Program, Streams, check_status};
 use xb_bench::{Asked, PROGRAM};
 use xb_command::{Call, attend};
 
@@ -14,14 +14,8 @@ impl Program for Mfbench {
         "mfbench"
     }
 
-    fn attend(
-        &self,
-        alloc: Global,
-        words: &[String],
-        reader: &mut Halting<'_>,
-        out: &mut Short,
-        err: &mut Vec<u8>,
-    ) -> u8 {
+    fn attend(&self, alloc: Global, words: &[String], streams: Streams<'_, '_>) -> u8 {
+        let Streams { reader, out, err } = streams;
         let call = Call {
             program: &PROGRAM,
             words,

@@ -1,6 +1,6 @@
 // The program `mflive`, with files of tests.
 use std::alloc::Global;
-use test_kit::{Folder, Halting, Program, Short, called};
+use test_kit::{Folder, Program, Streams, called};
 use xb_command::attend;
 use xb_live::{Asked, PROGRAM};
 
@@ -19,14 +19,8 @@ impl Program for Mflive {
         "mflive"
     }
 
-    fn attend(
-        &self,
-        alloc: Global,
-        words: &[String],
-        reader: &mut Halting<'_>,
-        out: &mut Short,
-        err: &mut Vec<u8>,
-    ) -> u8 {
+    fn attend(&self, alloc: Global, words: &[String], streams: Streams<'_, '_>) -> u8 {
+        let Streams { reader, out, err } = streams;
         attend::<Asked<'_>, _, _, _, _>(alloc, &called(&PROGRAM, words), &FOLDER, reader, out, err)
     }
 }

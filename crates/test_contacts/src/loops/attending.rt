@@ -1,7 +1,7 @@
 // The program `mfloop`, and the tables that there are.
 use std::alloc::Global;
 use std::test::Fail;
-use test_kit::{Fault, Folder, Gives, Halting, Program, Short, check_status};
+use test_kit::{Fault, Folder, Gives, Program, Streams, check_status};
 use xb_command::{Call, attend};
 use xb_loop::{Asked, PROGRAM};
 
@@ -21,14 +21,8 @@ impl Program for Mfloop {
         "mfloop"
     }
 
-    fn attend(
-        &self,
-        alloc: Global,
-        words: &[String],
-        reader: &mut Halting<'_>,
-        out: &mut Short,
-        err: &mut Vec<u8>,
-    ) -> u8 {
+    fn attend(&self, alloc: Global, words: &[String], streams: Streams<'_, '_>) -> u8 {
+        let Streams { reader, out, err } = streams;
         let call = Call {
             program: &PROGRAM,
             words,

@@ -54,6 +54,12 @@ $enddefinitions $end\n$dumpvars\nb0 ab\nbxxxx0000 !\n$end\n#1000\nb1 ab\r\n#3000
         &["--wire", "7=2", "--inverted"],
         b"0,0,1\n0.01,1,0\n0.03,0,0\n",
     ),
+];
+
+// Edges of a contact that rests closed.
+const EDGE_ROWS: &[u8] = b"line,state,ms\n7,M,5\n7,B,10\n7,M,20\n";
+
+const EDGES: &[Form] = &[
     // gpiomon of libgpiod 1 and 2
     (
         &["--wire", "7=17"],
@@ -110,16 +116,13 @@ const EMPTY_LINES: usize = 131_072;
 
 #[test]
 fn gives_the_rows_in_any_pieces(rt: HostRuntime) -> Result<(), Fail> {
+    let (page, steps) = (Gives::page(ROWS), [1, 3, 8_192]);
     for (words, recording) in TEXTS.iter().chain(SAMPLES) {
-        let steps = [1, 3, 8_192];
-        check_pieces(
-            rt.alloc(),
-            &Mfloop,
-            words,
-            recording,
-            &steps,
-            Gives::page(ROWS),
-        )?;
+        check_pieces(rt.alloc(), &Mfloop, words, recording, &steps, page)?;
+    }
+    for (words, recording) in EDGES {
+        let page = Gives::page(EDGE_ROWS);
+        check_pieces(rt.alloc(), &Mfloop, words, recording, &steps, page)?;
     }
     let mut recording = Vec::new(rt.alloc());
     recording.extend_from_slice(b"$comment ")?;
@@ -127,14 +130,7 @@ fn gives_the_rows_in_any_pieces(rt: HostRuntime) -> Result<(), Fail> {
     recording.extend_from_slice(b" $end\n$timescale 1 ms $end\n$var wire 1 ! D0 $end\n")?;
     recording.extend_from_slice(b"$enddefinitions $end\n#0 0!\n#10 1!\n#30\n")?;
     let (words, steps) = (["--wire", "7=D0"], [1, 1_000, 8_192]);
-    check_pieces(
-        rt.alloc(),
-        &Mfloop,
-        &words,
-        &recording,
-        &steps,
-        Gives::page(ROWS),
-    )
+    check_pieces(rt.alloc(), &Mfloop, &words, &recording, &steps, page)
 }
 
 #[test]

@@ -32,7 +32,7 @@ const CASES: &[Case] = &[
         ],
         LOST,
         0,
-        b"line,state,ms\n7,B,500\n7,M,61\n7,B,439\n7,M,1000\n8,M,1900\n",
+        b"line,state,ms\n7,M,5\n8,B,100\n7,B,500\n7,M,61\n7,B,439\n7,M,1000\n8,M,1900\n",
         b"line 7: 0 bounces, the longest 0 us\nline 7: lost edges: 2\nline 8: 0 bounces, the longest 0 us\n",
     ),
     // none is lost
@@ -40,7 +40,7 @@ const CASES: &[Case] = &[
         &["--wire", "8=4", "--lossy"],
         LOST,
         0,
-        b"line,state,ms\n8,M,1900\n",
+        b"line,state,ms\n8,B,100\n8,M,1900\n",
         b"",
     ),
 ];

@@ -38,7 +38,7 @@ const REFUSED: &[&[&str]] = &[
     &["--wire", "7=,inverted"],
     &["--wire", "7=1,ringing,ringing"],
     // a make of a period of ringing would seize
-    &["--wire", "7=1", "--ringing", "--seize", "65"],
+    &["--wire", "7=1", "--ringing", "--seize", "67"],
     &["--wire", "7=1,seize=0,ringing"],
     &["--wire", "7=1", "--format", "csv"],
     // edges are lost of gpiomon alone

@@ -18,8 +18,11 @@ const UNQUOTED: &[u8] =
     b"1.000000000\tfalling\tgpiochip0 17 my line\n1.010000000\trising\tgpiochip0 17 my line
 1.030000000\trising\tgpiochip0 7 X\n";
 
-// Words, and a recording that gives the rows.
-const TAKEN: &[(&[&str], &[u8])] = &[
+// The same rows after the make that the first edge leaves.
+const EDGE_ROWS: &[u8] = b"line,state,ms\n7,M,5\n7,B,10\n7,M,20\n";
+
+// Words, and a recording that gives these.
+const EDGES: &[(&[&str], &[u8])] = &[
     (&["--wire", "7=my line"], NAMED),
     (&["--wire", "7=\"my line\""], NAMED),
     (&["--wire", "7=17"], NUMBERED),
@@ -27,6 +30,10 @@ const TAKEN: &[(&[&str], &[u8])] = &[
     (&["--wire", "7=17 \"GPIO17\""], NUMBERED),
     (&["--wire", "7=17"], UNQUOTED),
     (&["--wire", "7=my line"], UNQUOTED),
+];
+
+// Words, and a recording that gives the rows.
+const TAKEN: &[(&[&str], &[u8])] = &[
     // samples 1, 481 and 1,441 of sigrok at 48 kHz, each 20 us after the one before; 22 us at 44.1 kHz
     (
         &["--wire", "7=D1"],
@@ -120,8 +127,10 @@ const REFUSED: &[Fault] = &[
 
 #[test]
 fn gives_the_rows_of_each(rt: HostRuntime) -> Result<(), Fail> {
-    for (words, recording) in TAKEN {
-        check_status(rt.alloc(), &Mfloop, words, recording, Gives::page(ROWS))?;
+    for (cases, rows) in [(TAKEN, ROWS), (EDGES, EDGE_ROWS)] {
+        for (words, recording) in cases {
+            check_status(rt.alloc(), &Mfloop, words, recording, Gives::page(rows))?;
+        }
     }
     Ok(())
 }

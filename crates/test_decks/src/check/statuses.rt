@@ -2,7 +2,7 @@
 use std::alloc::Global;
 use std::test::Fail;
 use test_kit::{
-    Case, Fault, Folder, Halting, Page, Program, Refusal, Short, called, check_cases, check_faults,
+    Case, Fault, Folder, Page, Program, Refusal, Streams, called, check_cases, check_faults,
     check_pages, check_reads, check_refusals, check_texts, check_writes,
 };
 use xb_check::{CheckFault, PROGRAM, Request};
@@ -17,22 +17,10 @@ impl Program for Mfcheck {
         "mfcheck"
     }
 
-    fn attend(
-        &self,
-        alloc: Global,
-        words: &[String],
-        reader: &mut Halting<'_>,
-        out: &mut Short,
-        err: &mut Vec<u8>,
-    ) -> u8 {
-        attend::<Request<'_>, _, _, _, _>(
-            alloc,
-            &called(&PROGRAM, words),
-            &FOLDER,
-            reader,
-            out,
-            err,
-        )
+    fn attend(&self, alloc: Global, words: &[String], streams: Streams<'_, '_>) -> u8 {
+        let Streams { reader, out, err } = streams;
+        let call = called(&PROGRAM, words);
+        attend::<Request<'_>, _, _, _, _>(alloc, &call, &FOLDER, reader, out, err)
     }
 }
 

@@ -3,8 +3,8 @@ use std::alloc::{AllocError, Global};
 use std::io::ErrorKind;
 use std::test::Fail;
 use test_kit::{
-    Fault, Folder, Gives, Halting, Page, Program, Refusal, Short, check_faults, check_pages,
-    check_reads, check_refusals, check_streams, words_of,
+    Fault, Folder, Gives, Halting, Page, Program, Refusal, Short, Streams, check_faults,
+    check_pages, check_reads, check_refusals, check_streams, words_of,
 };
 use xb_command::{Call, Pipe, READER_GONE, attend};
 use xb_dial::{Asked, PROGRAM};
@@ -18,14 +18,8 @@ impl Program for Mfdial {
         "mfdial"
     }
 
-    fn attend(
-        &self,
-        alloc: Global,
-        words: &[String],
-        reader: &mut Halting<'_>,
-        out: &mut Short,
-        err: &mut Vec<u8>,
-    ) -> u8 {
+    fn attend(&self, alloc: Global, words: &[String], streams: Streams<'_, '_>) -> u8 {
+        let Streams { reader, out, err } = streams;
         let call = Call {
             program: &PROGRAM,
             words,

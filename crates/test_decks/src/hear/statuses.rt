@@ -1,13 +1,14 @@
 // Words, decks and streams in; a status and lines of faults out.
-use crate::hear::reports::DECK;
+use crate::hear::reports::{CALL, DECK, SHORT};
 use std::alloc::Global;
 use std::test::Fail;
 use test_kit::{
-    Fault, Folder, Halting, Program, Refusal, Short, attended, called, check_faults, check_reads,
+    Fault, Folder, Program, Refusal, Streams, attended, called, check_faults, check_reads,
     check_refusals, check_writes,
 };
 use xb_command::attend;
 use xb_hear::{Asked, PROGRAM};
+use xb_loop::Asked as Rows;
 
 /// The program `mfhear`.
 #[derive(Clone, Copy)]
@@ -18,21 +19,18 @@ impl Program for Mfhear {
         "mfhear"
     }
 
-    fn attend(
-        &self,
-        alloc: Global,
-        words: &[String],
-        reader: &mut Halting<'_>,
-        out: &mut Short,
-        err: &mut Vec<u8>,
-    ) -> u8 {
-        attend::<Asked<'_>, _, _, _, _>(alloc, &called(&PROGRAM, words), &FOLDER, reader, out, err)
+    fn attend(&self, alloc: Global, words: &[String], streams: Streams<'_, '_>) -> u8 {
+        let Streams { reader, out, err } = streams;
+        let call = called(&PROGRAM, words);
+        attend::<Asked<'_, Rows<'_>>, _, _, _, _>(alloc, &call, &FOLDER, reader, out, err)
     }
 }
 
 // The files that there are.
 const FOLDER: Folder = Folder(&[
     ("day.deck", DECK),
+    ("call.csv", CALL),
+    ("short.toml", SHORT),
     ("call.wav", b"RIFF\x24\0\0\0WAVEfmt "),
     ("wide.deck", b"\xff\xfeb\0"),
 ]);
@@ -45,7 +43,12 @@ const FAULTS: &[Fault] = &[
     (
         &[],
         b"line,state,ms\n",
-        b"mfhear: the deck has no line ---\n",
+        b"mfhear: the deck has no line ---; where it is a recording, say its wires, as --wire 7=D0\n",
+    ),
+    (
+        &["--wire", "7=1", "--line", "8"],
+        b"0,1\n1,1\n",
+        b"mfhear: line 8 has no attempt\n",
     ),
     (
         &[],
@@ -99,6 +102,14 @@ const REFUSED: &[Refusal] = &[
     (
         &["--svg"],
         b"mfhear: --svg wants --line; mfhear --help says more\n",
+    ),
+    (
+        &["--rate", "8000"],
+        b"mfhear: --rate wants --wire; mfhear --help says more\n",
+    ),
+    (
+        &["--wire", "7"],
+        b"mfhear: invalid value '7' for '--wire': a line, = and a wire are wanted, as 7=D0; mfhear --help says more\n",
     ),
     (
         &["--refused", "--svg"],
@@ -165,7 +176,7 @@ fn tells_statuses(rt: HostRuntime) -> Result<(), Fail> {
 #[test]
 fn tells_how_it_is_called(rt: HostRuntime) -> Result<(), Fail> {
     let usage =
-        b"usage: mfhear [DECK] [--line N] [--refused] [--html] [--json] [--svg] [--attempt K]\n\nSays ";
+        b"usage: mfhear [DECK] [--line N] [--refused] [--html] [--json] [--svg] [--attempt K] [--wire N=WIRE]... [--table FILE] [--format FORM] [--rate HZ] [--settle MS] [--threshold PERCENT] [--inverted]\n\nSays ";
     let of_line = b"\n  --svg\n        its picture (SVG) in place of the report; it wants --line\n";
     let gave = attended(rt.alloc(), &Mfhear, &["--line", "9", "--help"], b"")?;
     assert_eq!(rt; gave.status, 0);

@@ -3,8 +3,7 @@ use crate::route::tables::FOLDER;
 use std::alloc::Global;
 use std::test::Fail;
 use test_kit::{
-    Fault, Halting, Page, Program, Refusal, Short, called, check_faults, check_pages,
-    check_refusals,
+    Fault, Page, Program, Refusal, Streams, called, check_faults, check_pages, check_refusals,
 };
 use xb_command::attend;
 use xb_route::{PROGRAM, Request};
@@ -18,22 +17,10 @@ impl Program for Mfroute {
         "mfroute"
     }
 
-    fn attend(
-        &self,
-        alloc: Global,
-        words: &[String],
-        reader: &mut Halting<'_>,
-        out: &mut Short,
-        err: &mut Vec<u8>,
-    ) -> u8 {
-        attend::<Request<'_>, _, _, _, _>(
-            alloc,
-            &called(&PROGRAM, words),
-            &FOLDER,
-            reader,
-            out,
-            err,
-        )
+    fn attend(&self, alloc: Global, words: &[String], streams: Streams<'_, '_>) -> u8 {
+        let Streams { reader, out, err } = streams;
+        let call = called(&PROGRAM, words);
+        attend::<Request<'_>, _, _, _, _>(alloc, &call, &FOLDER, reader, out, err)
     }
 }
 

@@ -18,15 +18,10 @@ struct OperatorInRounds<'a> {
 }
 
 impl<'a> Schedule for OperatorInRounds<'a> {
-    fn play<A: Abort, P: Played>(
-        &self,
-        rt: &A,
-        chain: &mut P,
-        wanted: &Wanted,
-    ) -> Result<(), Fail> {
+    fn play<A: Abort, P: Played>(&self, rt: &A, chain: &mut P, tapes: &Wanted) -> Result<(), Fail> {
         assert_eq!(rt; chain.turn(Post::Tape)?, Turn::Idle);
         assert_eq!(rt; chain.turn(Post::Send(7))?, Turn::Idle);
-        play_rounds(rt, chain, wanted, self.posts, 200)?;
+        play_rounds(rt, chain, tapes, self.posts, 200)?;
         assert!(rt; chain.ended());
         let line = LineNo::new(5).ok_or("a line")?;
         assert_eq!(rt; chain.marks(line), operator_marks()?.as_slice());
@@ -41,14 +36,9 @@ struct ToTheEnd<'a> {
 }
 
 impl<'a> Schedule for ToTheEnd<'a> {
-    fn play<A: Abort, P: Played>(
-        &self,
-        rt: &A,
-        chain: &mut P,
-        wanted: &Wanted,
-    ) -> Result<(), Fail> {
-        play_rounds(rt, chain, wanted, self.posts, 1_000)?;
-        assert!(rt; wanted.are_given_by(chain));
+    fn play<A: Abort, P: Played>(&self, rt: &A, chain: &mut P, tapes: &Wanted) -> Result<(), Fail> {
+        play_rounds(rt, chain, tapes, self.posts, 1_000)?;
+        assert!(rt; tapes.are_given_by(chain));
         Ok(())
     }
 }
@@ -73,13 +63,8 @@ struct WithoutSender<'a> {
 }
 
 impl<'a> Schedule for WithoutSender<'a> {
-    fn play<A: Abort, P: Played>(
-        &self,
-        rt: &A,
-        chain: &mut P,
-        wanted: &Wanted,
-    ) -> Result<(), Fail> {
-        play_rounds(rt, chain, wanted, self.posts, 1_000)?;
+    fn play<A: Abort, P: Played>(&self, rt: &A, chain: &mut P, tapes: &Wanted) -> Result<(), Fail> {
+        play_rounds(rt, chain, tapes, self.posts, 1_000)?;
         assert!(rt; !chain.ended());
         let line = LineNo::new(3).ok_or("a line")?;
         assert_eq!(rt; chain.marks(line), self.marks);

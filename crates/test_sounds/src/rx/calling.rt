@@ -1,7 +1,7 @@
 // The program, called by words, and the files that these name.
 use crate::rx::statuses::FILE;
 use std::alloc::Global;
-use test_kit::{Folder, Halting, Program, Short};
+use test_kit::{Folder, Program, Streams};
 use xb_command::{Call, attend};
 use xb_rx::{Asked, PROGRAM};
 
@@ -28,14 +28,8 @@ impl Program for Mfrx {
         "mfrx"
     }
 
-    fn attend(
-        &self,
-        alloc: Global,
-        words: &[String],
-        reader: &mut Halting<'_>,
-        out: &mut Short,
-        err: &mut Vec<u8>,
-    ) -> u8 {
+    fn attend(&self, alloc: Global, words: &[String], streams: Streams<'_, '_>) -> u8 {
+        let Streams { reader, out, err } = streams;
         let call = Call {
             program: &PROGRAM,
             words,

@@ -3,8 +3,8 @@ use crate::tandem::tables::FOLDER;
 use std::alloc::Global;
 use std::test::Fail;
 use test_kit::{
-    Case, Fault, Halting, Page, Program, Refusal, Short, called, check_cases, check_faults,
-    check_pages, check_refusals,
+    Case, Fault, Page, Program, Refusal, Streams, called, check_cases, check_faults, check_pages,
+    check_refusals,
 };
 use xb_command::attend;
 use xb_tandem::{Asked, PROGRAM};
@@ -18,14 +18,8 @@ impl Program for Mftandem {
         "mftandem"
     }
 
-    fn attend(
-        &self,
-        alloc: Global,
-        words: &[String],
-        reader: &mut Halting<'_>,
-        out: &mut Short,
-        err: &mut Vec<u8>,
-    ) -> u8 {
+    fn attend(&self, alloc: Global, words: &[String], streams: Streams<'_, '_>) -> u8 {
+        let Streams { reader, out, err } = streams;
         attend::<Asked<'_>, _, _, _, _>(alloc, &called(&PROGRAM, words), &FOLDER, reader, out, err)
     }
 }

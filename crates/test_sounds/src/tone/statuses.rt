@@ -4,8 +4,7 @@ use crate::tone::sounds::PAGE;
 use std::alloc::Global;
 use std::test::Fail;
 use test_kit::{
-    Fault, Halting, Program, Refusal, Short, check_faults, check_reads, check_refusals,
-    check_writes,
+    Fault, Program, Refusal, Streams, check_faults, check_reads, check_refusals, check_writes,
 };
 
 /// The program `mftone`.
@@ -17,14 +16,8 @@ impl Program for Mftone {
         "mftone"
     }
 
-    fn attend(
-        &self,
-        alloc: Global,
-        words: &[String],
-        reader: &mut Halting<'_>,
-        out: &mut Short,
-        err: &mut Vec<u8>,
-    ) -> u8 {
+    fn attend(&self, alloc: Global, words: &[String], streams: Streams<'_, '_>) -> u8 {
+        let Streams { reader, out, err } = streams;
         sounded(alloc, words, reader, out, err)
     }
 }

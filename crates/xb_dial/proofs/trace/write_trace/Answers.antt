@@ -21,10 +21,9 @@ parts bouncing rows = refl
 
 pub returns-in_err-write_whole-clause-beginning : goal.returns-in_err-write_whole-clause-beginning
 returns-in_err-write_whole-clause-beginning g c =
-    let rows = c.args.rows.now in
     subst (λ (text : List ℕ). AppendsBeginning (g.W.Write.contents c.args.out.now) (g.W.Write.contents c.write_whole.new.out) text)
-    (parts c.args.bouncing rows)
-    (AppendsBeginning-first _ _ head (runs_text c.args.bouncing (runs_in rows))
+    (parts c.args.bouncing c.args.rows.now)
+    (AppendsBeginning-first _ _ head (runs_text c.args.bouncing (runs_in c.args.rows.now))
     (subst (λ (text : List ℕ). AppendsBeginning (g.W.Write.contents c.args.out.now) (g.W.Write.contents c.write_whole.new.out) text)
     c.as_bytes.ensures.value c.write_whole.ensures.beginning))
 
@@ -39,36 +38,24 @@ write_runs-requires g c =
 
 pub returns-in_err-write_runs-clause-beginning : goal.returns-in_err-write_runs-clause-beginning
 returns-in_err-write_runs-clause-beginning g c =
-    let rows = c.args.rows.now in
-    let old = g.W.Write.contents c.args.out.now in
-    let mid = g.W.Write.contents c.write_whole.new.out in
-    let new = g.W.Write.contents c.write_runs.new.out in
-    let runs : c.deref.result.now ≡ runs_in rows = c.deref.ensures.value ∙ c.in_ok-runs.ensures in
-    subst (λ (text : List ℕ). AppendsBeginning old new text) (parts c.args.bouncing rows)
-    (AppendsBeginning-second old mid new head (runs_text c.args.bouncing (runs_in rows))
-    (subst (λ (text : List ℕ). Appends old mid text) c.as_bytes.ensures.value c.in_ok-write_whole.ensures.whole)
-    (subst (λ (runs : List Hold). AppendsBeginning mid new (runs_text c.args.bouncing runs)) runs c.write_runs.ensures.beginning))
+    let runs : c.deref.result.now ≡ runs_in c.args.rows.now = c.deref.ensures.value ∙ c.in_ok-runs.ensures in
+    subst (λ (text : List ℕ). AppendsBeginning (g.W.Write.contents c.args.out.now) (g.W.Write.contents c.write_runs.new.out) text) (parts c.args.bouncing c.args.rows.now)
+    (AppendsBeginning-second (g.W.Write.contents c.args.out.now) (g.W.Write.contents c.write_whole.new.out) (g.W.Write.contents c.write_runs.new.out) head (runs_text c.args.bouncing (runs_in c.args.rows.now))
+    (subst (λ (text : List ℕ). Appends (g.W.Write.contents c.args.out.now) (g.W.Write.contents c.write_whole.new.out) text) c.as_bytes.ensures.value c.in_ok-write_whole.ensures.whole)
+    (subst (λ (runs : List Hold). AppendsBeginning (g.W.Write.contents c.write_whole.new.out) (g.W.Write.contents c.write_runs.new.out) (runs_text c.args.bouncing runs)) runs c.write_runs.ensures.beginning))
 
 pub returns-clause-whole : goal.returns-clause-whole
 returns-clause-whole g c =
-    let rows = c.args.rows.now in
-    let old = g.W.Write.contents c.args.out.now in
-    let mid = g.W.Write.contents c.write_whole.new.out in
-    let new = g.W.Write.contents c.write_runs.new.out in
-    let runs : c.deref.result.now ≡ runs_in rows = c.deref.ensures.value ∙ c.in_ok-runs.ensures in
-    subst (λ (text : List ℕ). Appends old new text) (parts c.args.bouncing rows)
-    (Appends-trans old mid new head (runs_text c.args.bouncing (runs_in rows))
-    (subst (λ (text : List ℕ). Appends old mid text) c.as_bytes.ensures.value c.in_ok-write_whole.ensures.whole)
-    (subst (λ (runs : List Hold). Appends mid new (runs_text c.args.bouncing runs)) runs c.in_ok-write_runs.ensures.whole))
+    let runs : c.deref.result.now ≡ runs_in c.args.rows.now = c.deref.ensures.value ∙ c.in_ok-runs.ensures in
+    subst (λ (text : List ℕ). Appends (g.W.Write.contents c.args.out.now) (g.W.Write.contents c.write_runs.new.out) text) (parts c.args.bouncing c.args.rows.now)
+    (Appends-trans (g.W.Write.contents c.args.out.now) (g.W.Write.contents c.write_whole.new.out) (g.W.Write.contents c.write_runs.new.out) head (runs_text c.args.bouncing (runs_in c.args.rows.now))
+    (subst (λ (text : List ℕ). Appends (g.W.Write.contents c.args.out.now) (g.W.Write.contents c.write_whole.new.out) text) c.as_bytes.ensures.value c.in_ok-write_whole.ensures.whole)
+    (subst (λ (runs : List Hold). Appends (g.W.Write.contents c.write_whole.new.out) (g.W.Write.contents c.write_runs.new.out) (runs_text c.args.bouncing runs)) runs c.in_ok-write_runs.ensures.whole))
 
 pub returns-clause-beginning : goal.returns-clause-beginning
 returns-clause-beginning g c =
-    let rows = c.args.rows.now in
-    let old = g.W.Write.contents c.args.out.now in
-    let mid = g.W.Write.contents c.write_whole.new.out in
-    let new = g.W.Write.contents c.write_runs.new.out in
-    let runs : c.deref.result.now ≡ runs_in rows = c.deref.ensures.value ∙ c.in_ok-runs.ensures in
-    subst (λ (text : List ℕ). AppendsBeginning old new text) (parts c.args.bouncing rows)
-    (AppendsBeginning-second old mid new head (runs_text c.args.bouncing (runs_in rows))
-    (subst (λ (text : List ℕ). Appends old mid text) c.as_bytes.ensures.value c.in_ok-write_whole.ensures.whole)
-    (subst (λ (runs : List Hold). AppendsBeginning mid new (runs_text c.args.bouncing runs)) runs c.write_runs.ensures.beginning))
+    let runs : c.deref.result.now ≡ runs_in c.args.rows.now = c.deref.ensures.value ∙ c.in_ok-runs.ensures in
+    subst (λ (text : List ℕ). AppendsBeginning (g.W.Write.contents c.args.out.now) (g.W.Write.contents c.write_runs.new.out) text) (parts c.args.bouncing c.args.rows.now)
+    (AppendsBeginning-second (g.W.Write.contents c.args.out.now) (g.W.Write.contents c.write_whole.new.out) (g.W.Write.contents c.write_runs.new.out) head (runs_text c.args.bouncing (runs_in c.args.rows.now))
+    (subst (λ (text : List ℕ). Appends (g.W.Write.contents c.args.out.now) (g.W.Write.contents c.write_whole.new.out) text) c.as_bytes.ensures.value c.in_ok-write_whole.ensures.whole)
+    (subst (λ (runs : List Hold). AppendsBeginning (g.W.Write.contents c.write_whole.new.out) (g.W.Write.contents c.write_runs.new.out) (runs_text c.args.bouncing runs)) runs c.write_runs.ensures.beginning))

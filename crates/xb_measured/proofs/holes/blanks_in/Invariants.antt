@@ -1,9 +1,9 @@
-use Rattle.std.proofs.Common.{◌≡◌, ◌≤◌, ◌+◌, drop}
+use Rattle.std.proofs.Common.{◌≡◌, ◌≤◌, ◌+◌, drop, false}
 use Rattle.xb_measured.specs.Blanks.{blanks_after}
 use Rattle.xb_measured.proofs.holes.blanks_in.Given as goal
 
-abbrev pub invariant-loop-strength : goal.invariant-loop-strength
-invariant-loop-strength l = record {
-  so_far : l.blanks + blanks_after l.before (drop l.strength-index l.held) ≡ blanks_after 1 l.held;
-  few : l.blanks ≤ l.strength-index;
+abbrev pub invariant-loop-sight : goal.invariant-loop-sight
+invariant-loop-sight l = record {
+  so_far : l.blanks + blanks_after l.was_blank (drop l.sight-index l.held) ≡ blanks_after false l.held;
+  few : l.blanks ≤ l.sight-index;
 }

@@ -8,10 +8,9 @@ use Rattle.xb_parts.proofs.splitting.make_and_name.Goals as goal
 
 pub returns-in-Err-clause-made : goal.returns-in-Err-clause-made
 returns-in-Err-clause-made g c parts ready =
-    let request = c.args.request.now in
-    let deck = g.F.SplitFiles.bytes c.args.files.now request.big.now in
+    let deck = g.F.SplitFiles.bytes c.args.files.now c.args.request.now.big.now in
     let taken = has_table deck c.args.plan.now.table.items c.args.rows.now IsTable ready.opened ready.plan.counted.0 in
-    let folder = request.folder.now in
+    let folder = c.args.request.now.folder.now in
     let files = c.make_parts.new.files in (
       c.in-Err.ensures.fault deck parts taken,
       list_left deck (g.F.SplitFiles.fresh c.args.files.now) parts c.in-Err.fault (g.F.SplitFiles.named files folder)
@@ -21,14 +20,11 @@ returns-in-Err-clause-made g c parts ready =
 
 pub name-requires : goal.name-requires
 name-requires g c =
-    let plan = c.args.plan.now in
     let deck = g.F.SplitFiles.bytes c.args.files.now c.args.request.now.big.now in
-    let made = g.F.Parts.PartDecks.contents c.in-Ok.parts in
-    let ready = c.requires.ready in
-    let whole = is_split deck ready.0 (g.F.SplitFiles.fresh c.args.files.now) made made plan.table.items plan.loads
-    plan.ranges.items (string_bytes plan.list) c.args.rows.now ready.1 c.in-Ok.ensures.made (λ i. refl) in
+    let whole = is_split deck c.requires.ready.0 (g.F.SplitFiles.fresh c.args.files.now) (g.F.Parts.PartDecks.contents c.in-Ok.parts) (g.F.Parts.PartDecks.contents c.in-Ok.parts) c.args.plan.now.table.items c.args.plan.now.loads
+    c.args.plan.now.ranges.items (string_bytes c.args.plan.now.list) c.args.rows.now c.requires.ready.1 c.in-Ok.ensures.made (λ i. refl) in
     record {
-      whole = rw (c.in-Ok.ensures.fresh, c.in-Ok.ensures.deck, c.deref.ensures) (ready.0, whole);
+      whole = rw (c.in-Ok.ensures.fresh, c.in-Ok.ensures.deck, c.deref.ensures) (c.requires.ready.0, whole);
       kept = c.in-Ok.ensures.kept;
     }
 
@@ -40,24 +36,20 @@ returns-in-Err-name-clause-none_left g c =
 
 pub returns-in-Err-name-clause-made : goal.returns-in-Err-name-clause-made
 returns-in-Err-name-clause-made g c parts ready =
-    let plan = c.args.plan.now in
     let deck = g.F.SplitFiles.bytes c.args.files.now c.args.request.now.big.now in
-    let folder = c.args.request.now.folder.now in
-    let list = c.deref.result.now in
-    let made = g.F.Parts.PartDecks.contents c.in-Ok.parts in
-    let old = g.F.SplitFiles.listed c.args.files.now folder in
-    let mid = g.F.SplitFiles.listed c.make_parts.new.files folder in
-    let new = g.F.SplitFiles.listed c.name.new.self folder in
-    let none = c.in-Ok.ensures.list folder in (
+    let old = g.F.SplitFiles.listed c.args.files.now c.args.request.now.folder.now in
+    let mid = g.F.SplitFiles.listed c.make_parts.new.files c.args.request.now.folder.now in
+    let new = g.F.SplitFiles.listed c.name.new.self c.args.request.now.folder.now in
+    let none = c.in-Ok.ensures.list c.args.request.now.folder.now in (
       tt,
-      elim (c.in-Err-name.ensures.maybe folder) [
+      elim (c.in-Err-name.ensures.maybe c.args.request.now.folder.now) [
         | inl kept ↦ inl (Keeps-trans old mid new none kept)
         | inr named ↦ inr (
-          list,
-          rw c.deref.ensures (is_split deck parts (g.F.SplitFiles.fresh c.args.files.now) made
-              (g.F.SplitFiles.named c.name.new.self folder) plan.table.items plan.loads plan.ranges.items
-              (string_bytes plan.list) c.args.rows.now ready c.in-Ok.ensures.made named.decks),
-          kept_then old mid new list none named.listed,
+          c.deref.result.now,
+          rw c.deref.ensures (is_split deck parts (g.F.SplitFiles.fresh c.args.files.now) (g.F.Parts.PartDecks.contents c.in-Ok.parts)
+              (g.F.SplitFiles.named c.name.new.self c.args.request.now.folder.now) c.args.plan.now.table.items c.args.plan.now.loads c.args.plan.now.ranges.items
+              (string_bytes c.args.plan.now.list) c.args.rows.now ready c.in-Ok.ensures.made named.decks),
+          kept_then old mid new c.deref.result.now none named.listed,
         )
       ],
     )
@@ -70,19 +62,15 @@ returns-in-Ok-name-clause-none_left g c =
 
 pub returns-in-Ok-name-clause-made : goal.returns-in-Ok-name-clause-made
 returns-in-Ok-name-clause-made g c parts ready =
-    let plan = c.args.plan.now in
     let deck = g.F.SplitFiles.bytes c.args.files.now c.args.request.now.big.now in
-    let folder = c.args.request.now.folder.now in
-    let list = c.deref.result.now in
-    let made = g.F.Parts.PartDecks.contents c.in-Ok.parts in
-    let old = g.F.SplitFiles.listed c.args.files.now folder in
-    let mid = g.F.SplitFiles.listed c.make_parts.new.files folder in
-    let new = g.F.SplitFiles.listed c.name.new.self folder in
-    let none = c.in-Ok.ensures.list folder in
+    let old = g.F.SplitFiles.listed c.args.files.now c.args.request.now.folder.now in
+    let mid = g.F.SplitFiles.listed c.make_parts.new.files c.args.request.now.folder.now in
+    let new = g.F.SplitFiles.listed c.name.new.self c.args.request.now.folder.now in
+    let none = c.in-Ok.ensures.list c.args.request.now.folder.now in
     let named = c.in-Ok-name.ensures.named in (
-      list,
-      rw c.deref.ensures (is_split deck parts (g.F.SplitFiles.fresh c.args.files.now) made
-          (g.F.SplitFiles.named c.name.new.self folder) plan.table.items plan.loads plan.ranges.items
-          (string_bytes plan.list) c.args.rows.now ready c.in-Ok.ensures.made named.decks),
-      kept_then old mid new list none named.listed,
+      c.deref.result.now,
+      rw c.deref.ensures (is_split deck parts (g.F.SplitFiles.fresh c.args.files.now) (g.F.Parts.PartDecks.contents c.in-Ok.parts)
+          (g.F.SplitFiles.named c.name.new.self c.args.request.now.folder.now) c.args.plan.now.table.items c.args.plan.now.loads c.args.plan.now.ranges.items
+          (string_bytes c.args.plan.now.list) c.args.rows.now ready c.in-Ok.ensures.made named.decks),
+      kept_then old mid new c.deref.result.now none named.listed,
     )

@@ -9,22 +9,16 @@ use Rattle.xb_parts.proofs.writing.write_rows.Goals as goal
 
 pub loop-preserved : goal.loop-preserved
 loop-preserved g c =
-    let inv = c.loop.invariant in
-    let start = c.args.rows.now in
-    let old = c.loop.rows in
-    let new = c.next_row.new.self in
-    let row = c.in-Some.row in
-    let ranges = c.args.ranges.now in
-    let gives = subst (λ r. GivesRead old (Ok r) new) c.in-Some.is c.in_ok-row.ensures in
-    let gets = Gets-trans (records_of_part ranges inv.0) (records_of_part ranges (row ∷ [])) (g.D.PartDecks.contents c.args.decks.now)
-    (g.D.PartDecks.contents c.loop.decks) (g.D.PartDecks.contents c.write_to_parts.new.decks) inv.4 c.in_default.ensures in
-    let more : length (inv.0 ++ row ∷ []) ≡ length inv.0 + 1 = length_push inv.0 row in (
-      inv.0 ++ row ∷ [],
-      omega (arith, more, inv.1),
-      HasGiven-more inv.0 start old new row inv.2 gives,
-      c.count_row.ensures inv.0 inv.3,
+    let gives = subst (λ r. GivesRead c.loop.rows (Ok r) c.next_row.new.self) c.in-Some.is c.in_ok-row.ensures in
+    let gets = Gets-trans (records_of_part c.args.ranges.now c.loop.invariant.0) (records_of_part c.args.ranges.now (c.in-Some.row ∷ [])) (g.D.PartDecks.contents c.args.decks.now)
+    (g.D.PartDecks.contents c.loop.decks) (g.D.PartDecks.contents c.write_to_parts.new.decks) c.loop.invariant.4 c.in_default.ensures in
+    let more : length (c.loop.invariant.0 ++ c.in-Some.row ∷ []) ≡ length c.loop.invariant.0 + 1 = length_push c.loop.invariant.0 c.in-Some.row in (
+      c.loop.invariant.0 ++ c.in-Some.row ∷ [],
+      omega (arith, more, c.loop.invariant.1),
+      HasGiven-more c.loop.invariant.0 c.args.rows.now c.loop.rows c.next_row.new.self c.in-Some.row c.loop.invariant.2 gives,
+      c.count_row.ensures c.loop.invariant.0 c.loop.invariant.3,
       Gets-as _ _ (g.D.PartDecks.contents c.args.decks.now) (g.D.PartDecks.contents c.write_to_parts.new.decks)
-          (λ i. sym (records_of_part-append ranges inv.0 (row ∷ []) i)) gets,
+          (λ i. sym (records_of_part-append c.args.ranges.now c.loop.invariant.0 (c.in-Some.row ∷ []) i)) gets,
     )
 
 pub loop-init : goal.loop-init

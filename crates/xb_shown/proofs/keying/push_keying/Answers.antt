@@ -8,5 +8,5 @@ returns c =
     subst (λ (ws : List (List ℕ)). OnOk c.push_drawing.result (PutsBy (λ looks. drawing_text looks ws)
     (string_bytes c.args.out.now) (string_bytes c.push_drawing.new.out)))
     (ap says c.deref.ensures.value ∙ c.in_ok-rows.ensures
-    ∙ ap (λ els. says els ++ part_words c.args.title c.args.before c.args.keys.now) c.new-drawn.ensures.items)
+    ∙ ap (λ els. says els ++ part_words c.args.part.now.title c.args.part.now.before c.args.part.now.keys.now) c.new-drawn.ensures.items)
     c.push_drawing.ensures

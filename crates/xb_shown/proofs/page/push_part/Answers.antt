@@ -10,9 +10,9 @@ use Rattle.xb_shown.proofs.page.push_part.Goals as goal
 pub returns : goal.returns
 returns c =
     let o = string_bytes c.args.out.now in
-    let title = c.args.title in
-    let before = c.args.before in
-    let keys = c.args.keys.now in
+    let title = c.args.part.now.title in
+    let before = c.args.part.now.before in
+    let keys = c.args.part.now.keys.now in
     let drawn = c.in_ok-push_keying.ensures in
     let picture = both o _ _ _ _ c.in_ok-push_opening.ensures drawn.put in
     on_ok_weaker c.push_figures.result (λ e. record { looks = drawn.looks; put = e })

@@ -7,7 +7,7 @@ use Rattle.xb_shown.proofs.picture.Picture.draw.Goals as goal
 
 pub returns-clause-words : goal.returns-clause-words
 returns-clause-words c =
-    let part : List (List ℕ) = part_words c.args.title c.args.before c.args.keys.now in
+    let part : List (List ℕ) = part_words c.args.part.now.title c.args.part.now.before c.args.part.now.keys.now in
     ap says c.in_ok-append.ensures.items
     ∙ flat_map-append said_by c.self.inside.elements.items c.put_part.new.out.items
     ∙ ap₂ (λ (old drawn : List (List ℕ)). old ++ drawn) (ap (λ (d : Drawn). d.words) c.self.view_is)
