@@ -48,6 +48,7 @@ pub fn file_source(name: Option<&str>) -> Source<'_>
 }
 
 /// What a program works with: its streams, and what its process gives it.
+#[derive(Drop)]
 pub struct Given<'s, 'a, F, R, W, E> {
     /// What it reads.
     pub input: &'s mut R,
