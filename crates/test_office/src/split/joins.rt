@@ -1,24 +1,11 @@
 // Words and files of pages in; a status, a page and lines of faults out.
+use crate::split::pages::{FIRST, LAST, WHOLE};
 use crate::split::statuses::PartsFolder;
 use std::alloc::Global;
 use std::test::Fail;
 use test_kit::{Folder, words_of};
 use xb_command::Call;
 use xb_parts::{JOIN_PROGRAM, PROGRAM, SPLIT_PROGRAM, attend};
-
-const FIRST: &[u8] = b"0000 1 REFUSED UNKNOWN 3\n\
-0007 1 KEYED 0001 KP:1100+1700 0:1300+1500 ST:1500+1700\n\
-0007 2 REFUSED ABANDONED 0\n\
-KEYED 1 REFUSED 2\n";
-
-const LAST: &[u8] = b"9999 1 KEYED 0003 KP:1100+1700 4:700+1300 1:700+900 1:700+900 ST:1500+1700\n\
-KEYED 1 REFUSED 0\n";
-
-const WHOLE: &[u8] = b"0000 1 REFUSED UNKNOWN 3\n\
-0007 1 KEYED 0001 KP:1100+1700 0:1300+1500 ST:1500+1700\n\
-0007 2 REFUSED ABANDONED 0\n\
-9999 1 KEYED 0003 KP:1100+1700 4:700+1300 1:700+900 1:700+900 ST:1500+1700\n\
-KEYED 2 REFUSED 2\n";
 
 const LIST: &[u8] = b"0000-4999.deck 0 4999 30\n5000-9999.deck 5000 9999 20\n";
 

@@ -5,17 +5,20 @@ use test_kit::check_texts;
 use xb_model::LINES;
 use xb_parts::{Damage, Joiner, LineRange, PartPage, PartsFault, join_pages};
 
-const FIRST: &[u8] = b"0000 1 REFUSED UNKNOWN 3\n\
+/// The page of the lines before 9999.
+pub const FIRST: &[u8] = b"0000 1 REFUSED UNKNOWN 3\n\
 0007 1 KEYED 0001 KP:1100+1700 0:1300+1500 ST:1500+1700\n\
 0007 2 REFUSED ABANDONED 0\n\
 KEYED 1 REFUSED 2\n";
 
 const NONE: &[u8] = b"KEYED 0 REFUSED 0\n";
 
-const LAST: &[u8] = b"9999 1 KEYED 0003 KP:1100+1700 4:700+1300 1:700+900 1:700+900 ST:1500+1700\n\
+/// The page of line 9999.
+pub const LAST: &[u8] = b"9999 1 KEYED 0003 KP:1100+1700 4:700+1300 1:700+900 1:700+900 ST:1500+1700\n\
 KEYED 1 REFUSED 0\n";
 
-const WHOLE: &[u8] = b"0000 1 REFUSED UNKNOWN 3\n\
+/// The page of both.
+pub const WHOLE: &[u8] = b"0000 1 REFUSED UNKNOWN 3\n\
 0007 1 KEYED 0001 KP:1100+1700 0:1300+1500 ST:1500+1700\n\
 0007 2 REFUSED ABANDONED 0\n\
 9999 1 KEYED 0003 KP:1100+1700 4:700+1300 1:700+900 1:700+900 ST:1500+1700\n\
