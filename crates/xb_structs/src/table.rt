@@ -43,20 +43,26 @@ pub(crate) fn plan_number(plan: Plan) -> u32
     }
 }
 
-// The limits of a table, if they are lawful.
-fn limits_of(table: &PlainTable) -> Option<Limits>
-    ensures variant { IsSome result ↔ IsLawful (limits_in table.now) }
-    ensures value { IfSome result (λ limits. limits ≡ limits_in table.now) }
+/// The limits of a table, lawful or not.
+pub fn limits_in(table: &PlainTable) -> Limits
+    ensures { result ≡ limits_in table.now }
 {
-    let limits = Limits {
+    Limits {
         pulse_min: table.pulse_min,
         pulse_max: table.pulse_max,
         make_min: table.make_min,
         pause: table.pause,
         release: table.release,
         timeout: table.timeout,
-    };
-    limits_by(limits).ok()
+    }
+}
+
+// The limits of a table, if they are lawful.
+fn limits_of(table: &PlainTable) -> Option<Limits>
+    ensures variant { IsSome result ↔ IsLawful (limits_in table.now) }
+    ensures value { IfSome result (λ limits. limits ≡ limits_in table.now) }
+{
+    limits_by(limits_in(table)).ok()
 }
 
 /// The routes of a table, if their count is not too great.
