@@ -11,6 +11,12 @@ use Rattle.xb_feed.specs.declared.manner.Manner.{Manner}
 use Rattle.xb_loop.specs.FirstEdges.{FirstEdgesTell, MakesBeforeSeize, first_after, scale_after, tick_after}
 use Rattle.xb_loop.specs.WireRecords.{WireRecord, record_by_edge, record_by_level, record_from}
 
+-- where none is of the wire, this is of another, and what comes after it tells all
+passes : {A B : Type 0} (x : A) (xs : List A) (told untold known : B) (here : Bool) → cond here (x ∷ xs) xs ≡ []
+    → (xs ≡ [] → untold ≡ known) → cond here told untold ≡ known
+passes x xs told untold known true none more = cc
+passes x xs told untold known false none more = more none
+
 module _ (manner : Manner) (wire : ℕ) (level : Level) (later : List Event) where
   abbrev begins : Option Scale → Option ℕ → ℕ → Option WireRecord
   begins scale first now =
@@ -28,34 +34,18 @@ module _ (manner : Manner) (wire : ℕ) (level : Level) (later : List Event) whe
       ap (λ here. cond here (begins scale first now) (record_from manner wire scale first now later)) (eq-eqb wire wire refl)
   tells (events.Ticks next ∷ rest) scale first now none = tells rest (Some next) first now none
   tells (events.At tick ∷ rest) scale first now none = tells rest scale (Some (unwrap_or first tick)) tick none
-  tells (events.Level other own ∷ rest) scale first now none = by (other == wire) none (tells rest scale first now)
-    where
-      by :
-          (here : Bool) → cond here (own ∷ levels_of wire rest) (levels_of wire rest) ≡ []
-          → (levels_of wire rest ≡ []
-          → record_from manner wire scale first now (rest ++ events.Edge wire level ∷ later)
-          ≡ begins (scale_after scale rest) (first_after first rest) (tick_after now rest))
-          → cond here (option_map_or (λ ticks. Some (record_by_level manner wire ticks now own
-          (rest ++ events.Edge wire level ∷ later))) scale
-          (record_from manner wire scale first now (rest ++ events.Edge wire level ∷ later)))
-          (record_from manner wire scale first now (rest ++ events.Edge wire level ∷ later))
-          ≡ begins (scale_after scale rest) (first_after first rest) (tick_after now rest)
-      by true none more = cc
-      by false none more = more none
-  tells (events.Edge other own ∷ rest) scale first now none = by (other == wire) none (tells rest scale first now)
-    where
-      by :
-          (here : Bool) → cond here (own ∷ levels_of wire rest) (levels_of wire rest) ≡ []
-          → (levels_of wire rest ≡ []
-          → record_from manner wire scale first now (rest ++ events.Edge wire level ∷ later)
-          ≡ begins (scale_after scale rest) (first_after first rest) (tick_after now rest))
-          → cond here (option_map_or (λ ticks. Some (record_by_edge manner wire ticks (unwrap_or first now) now own
-          (rest ++ events.Edge wire level ∷ later))) scale
-          (record_from manner wire scale first now (rest ++ events.Edge wire level ∷ later)))
-          (record_from manner wire scale first now (rest ++ events.Edge wire level ∷ later))
-          ≡ begins (scale_after scale rest) (first_after first rest) (tick_after now rest)
-      by true none more = cc
-      by false none more = more none
+  tells (events.Level other own ∷ rest) scale first now none =
+      let after = rest ++ events.Edge wire level ∷ later in
+      let untold = record_from manner wire scale first now after in
+      passes own (levels_of wire rest) (option_map_or (λ ticks. Some (record_by_level manner wire ticks now own after)) scale untold) untold
+      (begins (scale_after scale rest) (first_after first rest) (tick_after now rest)) (other == wire) none
+      (tells rest scale first now)
+  tells (events.Edge other own ∷ rest) scale first now none =
+      let after = rest ++ events.Edge wire level ∷ later in
+      let untold = record_from manner wire scale first now after in
+      passes own (levels_of wire rest) (option_map_or (λ ticks. Some (record_by_edge manner wire ticks (unwrap_or first now) now own after)) scale untold) untold
+      (begins (scale_after scale rest) (first_after first rest) (tick_after now rest)) (other == wire) none
+      (tells rest scale first now)
 
 pub first_edges_tell : FirstEdgesTell
 first_edges_tell manner wire early later level scale none is =
