@@ -6,15 +6,13 @@ use Rattle.xb_parts.proofs.SameLoads.{AreSameBelow-all, AreSameBelow-more}
 use Rattle.xb_parts.proofs.splitting.check_loads.Goals as goal
 
 pub loop-line-init : goal.loop-line-init
-loop-line-init c =
-    let left = c.into_iter-line-iterator.ensures.into_iter_gives ∙ c.iter-line-items.ensures.left in
-    record {
-      can = tt;
-      finite = tt;
-      left = IsLeft-start c.args.loads.now _ left;
-      lines = λ some. absurd (omega (arith, some));
-      same = λ k d below. absurd (omega (arith, below));
-    }
+loop-line-init c = record {
+  can = tt;
+  finite = tt;
+  left = IsLeft-start c.args.loads.now _ (c.into_iter-line-iterator.ensures.into_iter_gives ∙ c.iter-line-items.ensures.left);
+  lines = λ some. absurd (omega (arith, some));
+  same = λ k d below. absurd (omega (arith, below));
+}
 
 pub loop-line-preserved : goal.loop-line-preserved
 loop-line-preserved c =

@@ -6,14 +6,12 @@ use Rattle.xb_parts.proofs.RangeRecords.{in_range, out_of_range, records_before-
 use Rattle.xb_parts.proofs.splitting.records_in.Goals as goal
 
 pub loop-line-init : goal.loop-line-init
-loop-line-init c =
-    let left = c.into_iter-line-iterator.ensures.into_iter_gives ∙ c.iter-line-items.ensures.left in
-    record {
-      can = tt;
-      finite = tt;
-      left = IsLeft-start c.args.loads.now _ left;
-      records = sym (records_before-start c.args.loads.now c.args.lines);
-    }
+loop-line-init c = record {
+  can = tt;
+  finite = tt;
+  left = IsLeft-start c.args.loads.now _ (c.into_iter-line-iterator.ensures.into_iter_gives ∙ c.iter-line-items.ensures.left);
+  records = sym (records_before-start c.args.loads.now c.args.lines);
+}
 
 pub loop-line-preserved-then-has : goal.loop-line-preserved-then-has
 loop-line-preserved-then-has c =
