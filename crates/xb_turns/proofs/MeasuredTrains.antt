@@ -167,11 +167,10 @@ module _ (limits : Limits) (scale : Scale) where
       let periods : sum_by period_ticks (period ∷ rest) ≡ b + m + sum_by period_ticks rest =
       sum_by-cons period_ticks period rest in
       let breaks : sum_by break_ticks (period ∷ rest) ≡ b + sum_by break_ticks rest = sum_by-cons break_ticks period rest in
-      let lasting : 1 ≤ b = is.0.lasts in
       let pulses : rested.pulses ≡ before.pulses + 1 = omega (arith, room, periods) in
       let open_time : rested.broken + rested.latest ≡ before.broken + before.latest + b = omega (arith, time, periods) in
       let more = goes-on rest rested (from + b + m) last pause runs is.2 (omega (arith, pulses))
-      (omega (arith, room, periods, pulses, lasting)) (omega (arith, time, periods, open_time)) in
+      (omega (arith, room, periods, pulses, is.0.lasts)) (omega (arith, time, periods, open_time)) in
       let all : rested.pulses + length rest + 1 ≡ before.pulses + suc (length rest) + 1 = omega (arith, pulses) in
       let until : from + b + m + sum_by period_ticks rest ≡ from + sum_by period_ticks (period ∷ rest) =
       omega (arith, periods) in
@@ -236,10 +235,8 @@ module _ (limits : Limits) (scale : Scale) where
       let periods : sum_by period_ticks (period ∷ rest) ≡ b + m + sum_by period_ticks rest =
       sum_by-cons period_ticks period rest in
       let breaks : sum_by break_ticks (period ∷ rest) ≡ b + sum_by break_ticks rest = sum_by-cons break_ticks period rest in
-      let lasting : 1 ≤ b = is.0.lasts in
-      let resting : 1 ≤ m = is.1.lasts in
       let more = goes-on rest rested (from + b + m) last pause runs is.2 (omega arith)
-      (omega (arith, room, periods, lasting, resting)) (omega (arith, room, periods)) in
+      (omega (arith, room, periods, is.0.lasts, is.1.lasts)) (omega (arith, room, periods)) in
       let all : 1 + length rest + 1 ≡ suc (length rest) + 1 = omega arith in
       let until : from + b + m + sum_by period_ticks rest ≡ from + sum_by period_ticks (period ∷ rest) =
       omega (arith, periods) in
