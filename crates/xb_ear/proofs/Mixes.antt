@@ -174,6 +174,15 @@ module _ (a b : ℕ) (ds : List ℤ) (long : length ds ≡ 80) (low : HoldsLittl
       let sum = squares-mixed tone r 0 r 80 ds start long in
       omega (arith, ints, sum, cross r, loud)
 
+-- a window of a wave of two tones is that from its place in their period on
+pub from-place : (a b n : ℕ)
+    → cleans (map (λ k. (pair_sample (pair (a * 100) (b * 100)) k, MOST_NOISE_IN_TONES)) (range_with_len n 80))
+    ≡ map (λ k. pair_sample (pair (a * 100) (b * 100)) k) (range_with_len (n % 80) 80)
+from-place a b n =
+    let f : ℕ → ℤ = λ k. pair_sample (pair (a * 100) (b * 100)) k in
+    map-map (λ (x : ℤ × ℕ). x.0) (λ k. (f k, MOST_NOISE_IN_TONES)) (range_with_len n 80)
+    ∙ turned f (pair_sample-turns a b) 80 n (n / 80) (n % 80) (sym (div-add-mod' n 80))
+
 module _ (noise amplitude : ℕ) (bound : ℕ → ℕ) (is_bound : IsBound noise bound) where
   abbrev ShowsMixed : ℕ → (ℕ → ℤ) → Option Pair → Type 0
   ShowsMixed n f b = ShowsBy (Mix noise amplitude) n f b
@@ -188,11 +197,8 @@ module _ (noise amplitude : ℕ) (bound : ℕ → ℕ) (is_bound : IsBound noise
       let ds = mix.0 in
       let r : ℕ = n % 80 in
       let rest : r < 80 = mod_below n 80 (omega arith) in
-      let whole : n ≡ n / 80 * 80 + r = sym (div-add-mod' n 80) in
       let clean = map f (range_with_len r 80) in
-      let same : cleans (map (λ k. (f k, MOST_NOISE_IN_TONES)) (range_with_len n 80)) ≡ clean =
-      map-map (λ (x : ℤ × ℕ). x.0) (λ k. (f k, MOST_NOISE_IN_TONES)) (range_with_len n 80)
-      ∙ turned f (pair_sample-turns a b) 80 n (n / 80) r whole in
+      let same : cleans (map (λ k. (f k, MOST_NOISE_IN_TONES)) (range_with_len n 80)) ≡ clean = from-place a b n in
       let many : length clean ≡ 80 = length-map-range_with_len f r 80 in
       let ours : length ds ≡ 80 = mix.1.long ∙ pairs-long f MOST_NOISE_IN_TONES n in
       let long : length ds ≡ length clean = ours ∙ sym many in
