@@ -25,7 +25,7 @@ use Rattle.xb_ear.specs.HeardKeys.{MOST_NOISE, MOST_NOISE_IN_TONES, disturbable}
 use Rattle.xb_ear.specs.Hearings.{is_same_pair}
 use Rattle.xb_ear.specs.Levels.{correlated, cosine_of, level, levels_of, power, sine_of, squares}
 use Rattle.xb_ear.specs.Pairs.{mf_pairs}
-use Rattle.xb_ear.proofs.Bounds.{IsBelow, IsWithinReach, REACH, least, lowers, most, part-least, part-most, reach-1100, reach-1300, reach-1500, reach-1700, reach-700, reach-900, square-mono}
+use Rattle.xb_ear.proofs.Bounds.{IsBelow, IsWithinReach, REACH, least, lowers, most, part-least, part-most, reach-1100, reach-1300, reach-1500, reach-1700, reach-700, reach-900, square-mono, uppers}
 use Rattle.xb_ear.proofs.Mixed.{correlated-agrees, correlated-mixed, correlated-sum, drop-mixed, mixed-length, squares-mixed, take-mixed}
 use Rattle.xb_ear.proofs.Near.{far_squares, near-correlated, near-drop, near-length, near-squares, near-take, reach}
 use Rattle.xb_ear.proofs.Segments.{AreMatched, ShowsBy}
@@ -37,17 +37,9 @@ pub record IsBound (noise : ℕ) (bound : ℕ → ℕ) : Type 0 where
   pub most : (xs : List ℤ) → length xs ≡ 80 → far_squares noise xs ≤ bound (squares xs)
   pub grows : (p q : ℕ) → p ≤ q → bound p ≤ bound q
 
--- levels that a window has at most
+-- levels that a window has at most, with this power
 abbrev pub highers : ℕ → ℕ → List ℤ → Levels
-highers n power clean = record {
-  hz700 = most n clean 700;
-  hz900 = most n clean 900;
-  hz1100 = most n clean 1100;
-  hz1300 = most n clean 1300;
-  hz1500 = most n clean 1500;
-  hz1700 = most n clean 1700;
-  power = power;
-}
+highers n power clean = record (uppers n clean) { power = power }
 
 -- 80 clean samples that are mixed with others, and then changed
 module _ (noise amplitude : ℕ) (clean ds ys : List ℤ) (many : length clean ≡ 80) (long : length ds ≡ length clean)
