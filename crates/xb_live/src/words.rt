@@ -1,6 +1,6 @@
 // The words of the program, and what they ask for.
 ghost use Rattle.std.specs.Prelude.{◌≡◌, IfErr, IfOk};
-ghost use Rattle.xb_live.specs.Options.{AskNothing, Say, SayAsked, asks_entries, cadence_of, form_of, form_with_events, goes_with_sound, line_of, objects_since, request_of, start_of, time_of};
+ghost use Rattle.xb_live.specs.Options.{AskNothing, Say, SayAsked, asks_entries, cadence_of, form_of, form_with_events, goes_with_sound, line_of, objects_since, request_of, start_of};
 
 use crate::entry_text::EntryForm;
 use crate::request::{Asked, Request};
@@ -229,27 +229,16 @@ fn goes_with_sound(options: Options<'_>) -> bool
         || options.gap_ms.is_some()
 }
 
-// A time that is given, up to the longest that is told apart, or else that of the standard.
-fn time_of(given: Option<u32>, standard: u16) -> u16
-    ensures { result ≡ time_of given standard }
-{
-    match given {
-        Some(ms) => ms.min(65_535) as u16,
-        None => standard,
-    }
-}
-
 // The standard cadence, with each time that is given in place of its own.
 fn cadence_of(options: Options<'_>) -> Cadence
     ensures { result ≡ cadence_of options.entry }
 {
-    let standard = Cadence::standard();
-    Cadence {
-        lead_ms: time_of(options.lead_ms, standard.lead_ms),
-        kp_ms: time_of(options.kp_ms, standard.kp_ms),
-        key_ms: time_of(options.key_ms, standard.key_ms),
-        gap_ms: time_of(options.gap_ms, standard.gap_ms),
-    }
+    Cadence::chosen(
+        options.lead_ms,
+        options.kp_ms,
+        options.key_ms,
+        options.gap_ms,
+    )
 }
 
 // The line of a number, where there is one.

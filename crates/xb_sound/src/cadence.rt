@@ -1,6 +1,6 @@
 // How long the tones of a keying last, and the silences between them.
 ghost use Rattle.std.specs.Prelude.{◌≡◌, ◌↔◌, IsOk, IfErr, IsTrue};
-ghost use Rattle.xb_sound.specs.Cadences.{standard_cadence, IsLawful, IsFirstMisfit, IsSetApart, IsToneTime, tone_ms};
+ghost use Rattle.xb_sound.specs.Cadences.{chosen_cadence, chosen_ms, standard_cadence, IsLawful, IsFirstMisfit, IsSetApart, IsToneTime, tone_ms};
 
 use std::fmt;
 use thiserror::Error;
@@ -61,6 +61,16 @@ fn is_tone_time(ms: u16) -> bool
     0 < ms && ms <= LONGEST_MS
 }
 
+// A time that is given, up to the longest that is told apart, or else that of the standard.
+fn chosen_ms(given: Option<u32>, standard: u16) -> u16
+    ensures { result ≡ chosen_ms given standard }
+{
+    match given {
+        Some(ms) => ms.min(65_535) as u16,
+        None => standard,
+    }
+}
+
 impl Cadence {
     /// The cadence of a sender: KP of 100 ms, digits and ST of 68 ms, and 68 ms between two tones
     /// ("Notes on Distance Dialing"), after a silence of 500 ms.
@@ -74,6 +84,25 @@ impl Cadence {
             kp_ms: 100,
             key_ms: 68,
             gap_ms: 68,
+        }
+    }
+
+    /// The standard cadence, with each time that is given in place of its own, in ms: the silence before KP, the tone
+    /// of KP, that of a digit and of ST, and the silence after a tone. A time over 65,535 ms counts as that.
+    pub fn chosen(
+        lead_ms: Option<u32>,
+        kp_ms: Option<u32>,
+        key_ms: Option<u32>,
+        gap_ms: Option<u32>,
+    ) -> Cadence
+        ensures { result ≡ chosen_cadence lead_ms kp_ms key_ms gap_ms }
+    {
+        let standard = Cadence::standard();
+        Cadence {
+            lead_ms: chosen_ms(lead_ms, standard.lead_ms),
+            kp_ms: chosen_ms(kp_ms, standard.kp_ms),
+            key_ms: chosen_ms(key_ms, standard.key_ms),
+            gap_ms: chosen_ms(gap_ms, standard.gap_ms),
         }
     }
 
