@@ -12,7 +12,8 @@ use Rattle.xb_ear.specs.Steady.{beside, lessened}
 use Rattle.xb_ear.specs.Ears.{heard, hearing_after, held_before, least_before, recent_of, sights, windows_in}
 use Rattle.xb_ear.specs.Receivers.{HasReceived, Receiving, keys_of_sound}
 use Rattle.xb_ear.specs.Tails.{without_tail}
-use Rattle.xb_ear.proofs.Windows.{held-more, held-same, image_from-append, least-more, least-same, recent-more, recent-same, sights-more, sights-same}
+use Rattle.xb_model.proofs.Images.{image_from-append}
+use Rattle.xb_ear.proofs.Windows.{held-more, held-same, least-more, least-same, recent-more, recent-same, sights-more, sights-same}
 
 -- how many samples wait
 waits : (samples : List ℤ) → 20 * windows_in (length samples) ≤ length samples

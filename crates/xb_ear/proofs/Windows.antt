@@ -1,11 +1,10 @@
 -- The windows of samples, as samples come.
-use Rattle.std.proofs.Common.{◌≡◌, ◌∙◌, ℕ, zero, suc, ◌+◌, ◌-◌, ◌*◌, ◌<◌, ◌≤◌, Bool, true, false, List, [], ◌∷◌, ◌++◌, map, take, drop, fold, length, sym, ap, arith, refl, ℤ, append_assoc, length-drop, length-append, Option, None}
+use Rattle.std.proofs.Common.{◌≡◌, ◌∙◌, ℕ, zero, suc, ◌+◌, ◌-◌, ◌*◌, ◌<◌, ◌≤◌, Bool, true, false, List, [], ◌∷◌, ◌++◌, map, take, drop, length, sym, ap, arith, refl, ℤ, length-drop, length-append, Option, None}
 use Rattle.std.specs.Prelude.{if◌then◌else◌, nat_lt}
 use Rattle.std.specs.List.{range_with_len}
 use Rattle.std.proofs.lemmas.Bool.{le-ltb, ltb-false}
 use Rattle.std.proofs.lemmas.List.{drop-append-le, take-append-le, take_all, drop-drop}
 use Rattle.std.proofs.lemmas.List.FromFn.{map-range_with_len_more}
-use Rattle.xb_model.specs.Image.{Machine, image_from}
 use Rattle.xb_ear.specs.declared.sight.Sight.{Sight}
 use Rattle.xb_ear.specs.declared.echo_tails.TheConstants.{TAIL_WINDOWS}
 use Rattle.xb_ear.specs.Pairs.{seen}
@@ -13,14 +12,6 @@ use Rattle.xb_ear.specs.Levels.{levels_of}
 use Rattle.xb_ear.specs.Steady.{beside, lessened}
 use Rattle.xb_ear.specs.Ears.{held, held_before, least_before, recent_of, seen_at, sight_at, sights, window, windows_in}
 use Rattle.xb_ear.specs.Tails.{without_tail}
-
--- what is sent for one item more, and for many
-pub image_from-append : {I O S : Type 0} (m : Machine I O S) (s : S) (xs ys : List I)
-    → image_from m s (xs ++ ys) ≡ image_from m s xs ++ image_from m (fold m.next s xs) ys
-image_from-append m s [] ys = refl
-image_from-append m s (x ∷ xs) ys =
-    ap (λ rest. m.outs s x ++ rest) (image_from-append m (m.next s x) xs ys)
-    ∙ sym (append_assoc (m.outs s x) (image_from m (m.next s x) xs) (image_from m (fold m.next (m.next s x) xs) ys))
 
 -- two functions that agree on a range
 pub map-agrees : {A : Type 0} (f g : ℕ → A) (a n : ℕ) → ((k : ℕ) → k < a + n → f k ≡ g k)
