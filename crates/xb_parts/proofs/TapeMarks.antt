@@ -4,7 +4,6 @@ use Rattle.std.specs.Prelude.{IfSome, is_none}
 use Rattle.std.specs.List.{AllByRecursion, flat_map, list_any}
 use Rattle.std.proofs.lemmas.Bool.{cond_both, eqb-true}
 use Rattle.std.proofs.lemmas.Bool.Decides.{nat_tests}
-use Rattle.std.proofs.lemmas.List.Elements.{All-filter, All-from_recursion, recursion_from_All}
 use Rattle.xb_model.specs.declared.dialled.Dialled.{Dialled}
 use Rattle.xb_model.specs.declared.dialled.Dialled.TheVariants as dialled
 use Rattle.xb_model.specs.declared.digit.TheConstants.{DIGITS}
@@ -17,11 +16,12 @@ use Rattle.xb_model.specs.Keyings.{keying, marks_of, tone}
 use Rattle.xb_model.specs.Numbers.{before_mutilated, digit_of_count, digit_of_train, good_digits, has_length, is_complete, number_of, or_refused, outcome_of, reaches, shortest_complete, train_digits, without_number}
 use Rattle.xb_model.specs.Plans.{length_after_three}
 use Rattle.xb_model.specs.Records.{Attempt, Run, Train, attempts_of, is_timed, record_of, trains_of}
-use Rattle.xb_model.specs.Routing.{AreRoutes, CodedRoute, IsRoute, longer_of, longest_of, order_by, order_of, route_for}
+use Rattle.xb_model.specs.Routing.{AreRoutes, CodedRoute, IsRoute, order_by, order_of, route_for}
 use Rattle.xb_model.specs.Rows.{LoopRow}
 use Rattle.xb_model.specs.Signals.{breaks_in, is_bad_train}
 use Rattle.xb_model.specs.Tapes.{joined_tape}
 use Rattle.xb_model.proofs.Completed.{completed_number, shortest_complete-completed}
+use Rattle.xb_model.proofs.FoundRoutes.{found-is}
 use Rattle.xb_model.proofs.Pending.{IsPending, one, reaches-pending}
 use Rattle.xb_page.specs.ReadBack.{AreMarks, IsMark}
 
@@ -149,19 +149,6 @@ outcome-is plan limits attempt = by (number_of plan limits attempt) refl
     by None is = pending-most plan good (completed-none plan [] good refl (sym (shortest_complete-completed plan good) ∙ is))
     by (Some number) is =
         completed-number plan [] good number tt (good-digits limits attempt) (sym (shortest_complete-completed plan good) ∙ is)
-
--- a route that is found is one of the table
-longest-is : (routes : List CodedRoute) → AreRoutes routes → IfSome (longest_of routes) IsRoute
-longest-is [] are = tt
-longest-is (route ∷ routes) are = by (longest_of routes) (longest-is routes are.1)
-  where
-    by : (found : Option CodedRoute) → IfSome found IsRoute → IfSome (longer_of route found) IsRoute
-    by None is = are.0
-    by (Some other) is = cond_both _ (Some other) (Some route) (λ found. IfSome found IsRoute) (λ e. is) (λ e. are.0)
-
-found-is : (routes : List CodedRoute) (digits : List ℕ) → AreRoutes routes → IfSome (route_for routes digits) IsRoute
-found-is routes digits are =
-    longest-is _ (recursion_from_All IsRoute _ (All-filter _ IsRoute routes (All-from_recursion IsRoute routes are)))
 
 digit-marks : (digits : List ℕ) → AreDigits digits → AllByRecursion IsMark (map (λ d. tone (Digit d)) digits)
 digit-marks [] are = tt
