@@ -2,6 +2,7 @@ use Rattle.std.proofs.Common.{rules, ◌≡◌, ◌∙◌, ℕ, suc, ◌+◌, �
 use Rattle.std.specs.Io.KnownBytes.{Appends}
 use Rattle.xb_text.specs.Writing.{AppendsBeginning}
 use Rattle.std.proofs.lemmas.Result.{on_ok_weaker}
+use Rattle.xb_contact.specs.declared.level.Level.{Level}
 use Rattle.xb_contact.specs.Bounces.{Bounce, bounce_ticks}
 use Rattle.xb_contact.specs.Holds.{other_level}
 use Rattle.xb_dial.specs.Drawn.{bounce_at, bounces_from, bounces_of, part_at}
@@ -17,6 +18,16 @@ next : (most state j end : ℕ) → j < end
 next most state j end within =
     let count : end - j ≡ suc (end - (j + 1)) = omega arith in
     ap (λ n. bounces_from most state j n) count
+
+-- what is left is the text of the next, and what is left after it
+first-left : (most state j end now : ℕ) (level : Level) (ticks : ℕ) → j < end
+    → run_left now level (bounces_from most state j (end - j)) ticks
+    ≡ (change_text now level ++ change_text (now + (bounce_at most state j).holds) (other_level level))
+    ++ run_left (now + ((bounce_at most state j).holds + (bounce_at most state j).leaves)) level
+    (bounces_from most state (j + 1) (end - (j + 1))) ticks
+first-left most state j end now level ticks within =
+    ap (λ (bounces : List Bounce). run_left now level bounces ticks) (next most state j end within)
+    ∙ bounce-first now level (bounce_at most state j) (bounces_from most state (j + 1) (end - (j + 1))) ticks
 
 -- what it takes of the time
 time-left : (most state j end now all : ℕ) → j < end
@@ -45,26 +56,18 @@ write_bounce-requires g c =
 pub returns-in_err-write_bounce-clause-beginning :
     goal.returns-in_err-write_bounce-clause-beginning
 returns-in_err-write_bounce-clause-beginning g c =
-    let most : ℕ = c.args.us / 8 in
-    let j = c.loop-j.j in
-    let state = c.args.state in
-    let end = c.count_of-j-end.result in
     let now = c.loop-j.now in
     let level = c.args.run.level in
-    let old = g.W.Write.contents c.args.out.now in
     let mid = g.W.Write.contents c.loop-j.out in
     let new = g.W.Write.contents c.write_bounce.new.out in
-    let ticks : ℕ = c.args.run.ticks - bounce_ticks (bounces_of c.args.us state c.args.run.ticks) in
-    let bounce : Bounce = bounce_at most state j in
-    let rest : List Bounce = bounces_from most state (j + 1) (end - (j + 1)) in
+    let bounce : Bounce = bounce_at (c.args.us / 8) c.args.state c.loop-j.j in
     let begun : AppendsBeginning mid new (change_text now level ++ change_text (now + bounce.holds) (other_level level)) =
     subst (λ (holds : ℕ). AppendsBeginning mid new (change_text now level ++ change_text (now + holds) (other_level level)))
     c.part_at-holds.ensures.value c.write_bounce.ensures.beginning in
-    lacks-begun old mid new (change_text now level ++ change_text (now + bounce.holds) (other_level level))
-    (run_left (now + (bounce.holds + bounce.leaves)) level rest ticks) (run_text c.args.tick c.args.us state c.args.run)
-    (run_left now level (bounces_from most state j (end - j)) ticks) c.loop-j.invariant.lacks
-    (ap (λ bounces. run_left now level bounces ticks) (next most state j end c.loop-j-test.true)
-    ∙ bounce-first now level bounce rest ticks) begun
+    lacks-begun (g.W.Write.contents c.args.out.now) mid new (change_text now level ++ change_text (now + bounce.holds) (other_level level))
+    _ (run_text c.args.tick c.args.us c.args.state c.args.run) _ c.loop-j.invariant.lacks
+    (first-left (c.args.us / 8) c.args.state c.loop-j.j c.count_of-j-end.result now level
+    (c.args.run.ticks - bounce_ticks (bounces_of c.args.us c.args.state c.args.run.ticks)) c.loop-j-test.true) begun
 
 pub overflow_add-now-in-loop-j : goal.overflow_add-now-in-loop-j
 overflow_add-now-in-loop-j g c =
@@ -102,8 +105,7 @@ loop-j-preserved g c =
     let lacks = lacks-less old mid new (change_text now level ++ change_text (now + bounce.holds) (other_level level))
     (run_left (now + (bounce.holds + bounce.leaves)) level rest ticks) (run_text c.args.tick c.args.us state c.args.run)
     (run_left now level (bounces_from most state j (end - j)) ticks) c.loop-j.invariant.lacks
-    (ap (λ bounces. run_left now level bounces ticks) (next most state j end c.loop-j-test.true)
-    ∙ bounce-first now level bounce rest ticks) whole in
+    (first-left most state j end now level ticks c.loop-j-test.true) whole in
     let left = time-left most state j end now
     (c.args.tick + bounce_ticks (bounces_of c.args.us state c.args.run.ticks)) c.loop-j-test.true c.loop-j.invariant.spent in
     record {
@@ -113,8 +115,8 @@ loop-j-preserved g c =
       spent = omega (arith, left, time);
     }
 
-pub returns-clause-whole : goal.returns-clause-whole
-returns-clause-whole g c =
+pub returns : goal.returns
+returns g c =
     let level = c.args.run.level in
     let old = g.W.Write.contents c.args.out.now in
     let mid = g.W.Write.contents c.loop-j.out in
@@ -125,20 +127,10 @@ returns-clause-whole g c =
     let lacks : Lacks old mid (change_text c.loop-j.now level) all =
     subst (λ (bounces : List Bounce). Lacks old mid (run_left c.loop-j.now level bounces ticks) all) none
     c.loop-j.invariant.lacks in
-    on_ok_weaker c.write_change.result
-    (λ more. lacks-none old mid new (change_text c.loop-j.now level) all lacks more)
-    c.write_change.ensures.whole
-
-pub returns-clause-beginning : goal.returns-clause-beginning
-returns-clause-beginning g c =
-    let level = c.args.run.level in
-    let old = g.W.Write.contents c.args.out.now in
-    let mid = g.W.Write.contents c.loop-j.out in
-    let new = g.W.Write.contents c.write_change.new.out in
-    let all = run_text c.args.tick c.args.us c.args.state c.args.run in
-    let ticks : ℕ = c.args.run.ticks - bounce_ticks (bounces_of c.args.us c.args.state c.args.run.ticks) in
-    let none = none-left (c.args.us / 8) c.args.state c.loop-j.j c.count_of-j-end.result (omega (arith, c.loop-j-test.false)) in
-    let lacks : Lacks old mid (change_text c.loop-j.now level) all =
-    subst (λ (bounces : List Bounce). Lacks old mid (run_left c.loop-j.now level bounces ticks) all) none
-    c.loop-j.invariant.lacks in
-    lacks-end old mid new (change_text c.loop-j.now level) all lacks c.write_change.ensures.beginning
+    record {
+      whole =
+          on_ok_weaker c.write_change.result
+          (λ more. lacks-none old mid new (change_text c.loop-j.now level) all lacks more)
+          c.write_change.ensures.whole;
+      beginning = lacks-end old mid new (change_text c.loop-j.now level) all lacks c.write_change.ensures.beginning;
+    }
