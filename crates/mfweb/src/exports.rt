@@ -8,7 +8,7 @@ ghost use Rattle.xb_sound.specs.Cadences.{standard_cadence};
 ghost use Rattle.xb_sound.specs.Sines.{pair_sample};
 ghost use Rattle.xb_structs.specs.Filling.{HasAdded};
 ghost use Rattle.mfweb.specs.Calls.{Begins, DoesNotAdd, DoesNotBegin};
-ghost use Rattle.mfweb.specs.Calls.{cadence_of, limits_of, pair, words_of};
+ghost use Rattle.mfweb.specs.Calls.{cadence_of, pair, words_of};
 ghost use Rattle.mfweb.specs.Showing.{DoesNotPrint, FindsCode, FindsNoCode, PrintsEntry, number_in};
 
 use crate::status::NO_CODE;
@@ -19,24 +19,6 @@ use xb_structs::{
     DONE, PlainMark, PlainTable, add, begin, deciding, fault_place, fault_status, print_entry,
     print_status, refusal_status,
 };
-
-/// The limits of a line's pulses, each in ms.
-#[repr(C)]
-#[derive(Clone, Copy)]
-pub struct WebLimits {
-    /// The shortest break that is a pulse.
-    pub pulse_min: u32,
-    /// The longest break that is a pulse.
-    pub pulse_max: u32,
-    /// The shortest make between two pulses.
-    pub make_min: u32,
-    /// A make of this or more after a pulse ends the digit.
-    pub pause: u32,
-    /// A break of this or more releases the line.
-    pub release: u32,
-    /// A make of this or more times out an unfinished attempt.
-    pub timeout: u32,
-}
 
 /// The numbers of a route, and which of them its text says.
 #[repr(C)]
@@ -68,18 +50,10 @@ pub struct WebCadence {
 
 /// Writes the standard limits.
 #[unsafe(no_mangle)]
-pub extern "C" fn mfweb_limits(limits: &mut WebLimits)
-    ensures { limits_of limits.new ≡ standard_limits }
+pub extern "C" fn mfweb_limits(limits: &mut Limits)
+    ensures { limits.new ≡ standard_limits }
 {
-    let standard = Limits::standard();
-    *limits = WebLimits {
-        pulse_min: standard.pulse_min,
-        pulse_max: standard.pulse_max,
-        make_min: standard.make_min,
-        pause: standard.pause,
-        release: standard.release,
-        timeout: standard.timeout,
-    };
+    *limits = Limits::standard();
 }
 
 /// Begins a route table by its plan, 7 or 10, and its limits: it has no route as yet. On any other status than
@@ -88,23 +62,15 @@ pub extern "C" fn mfweb_limits(limits: &mut WebLimits)
 pub extern "C" fn mfweb_begin(
     table: &mut PlainTable,
     plan: u32,
-    limits: &WebLimits,
+    limits: &Limits,
     place: &mut u32,
 ) -> u32
-    ensures begins { result ≡ 0 → Begins table.new plan (limits_of limits.now) }
+    ensures begins { result ≡ 0 → Begins table.new plan limits.now }
     ensures refuses { result ≢ 0 →
-        DoesNotBegin table.old table.new plan (limits_of limits.now) place.new result }
+        DoesNotBegin table.old table.new plan limits.now place.new result }
 {
-    let limits = Limits {
-        pulse_min: limits.pulse_min,
-        pulse_max: limits.pulse_max,
-        make_min: limits.make_min,
-        pause: limits.pause,
-        release: limits.release,
-        timeout: limits.timeout,
-    };
     *place = 0;
-    match begin(table, plan, limits) {
+    match begin(table, plan, *limits) {
         Ok(()) => DONE,
         Err(fault) => {
             *place = fault_place(fault);

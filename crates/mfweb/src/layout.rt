@@ -3,11 +3,12 @@ ghost use Rattle.std.specs.Prelude.{◌≡◌, ◌≢◌, ◌≤◌, ◌<◌, le
 ghost use Rattle.mfweb.specs.declared.layout.TheConstants.{LAYOUT};
 
 use crate::ears::{WebEar, WebHeard, WebSight};
-use crate::exports::{WebCadence, WebLimits, WebRoute};
+use crate::exports::{WebCadence, WebRoute};
 use crate::lamps::{WebDigit, WebLamps};
 use crate::status::NO_ROOM;
 use crate::taking::WebTaken;
 use std::mem::size_of;
+use xb_model::Limits;
 use xb_onward::{PlainKey, PlainOutcome};
 use xb_structs::{DONE, PlainLine, PlainMark, PlainRoute, PlainRow, PlainSignal, PlainTable};
 
@@ -34,7 +35,7 @@ timed 24 begin_ms:u64@0 end_ms:u64@8 kind:u8@16 digit:u8@17
 outcome 12 kind:u8@0 count:u8@1 digits:u8*10@2
 ";
 
-const _: () = prove!(size_of::<WebLimits>() == 24);
+const _: () = prove!(size_of::<Limits>() == 24);
 
 const _: () = prove!(size_of::<PlainTable>() == 16_032);
 
