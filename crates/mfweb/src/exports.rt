@@ -7,8 +7,7 @@ ghost use Rattle.xb_routes.specs.Keys.{keys_in};
 ghost use Rattle.xb_sound.specs.Cadences.{standard_cadence};
 ghost use Rattle.xb_sound.specs.Sines.{pair_sample};
 ghost use Rattle.xb_structs.specs.Filling.{HasAdded};
-ghost use Rattle.mfweb.specs.Calls.{Begins, DoesNotAdd, DoesNotBegin};
-ghost use Rattle.mfweb.specs.Calls.{cadence_of, pair, words_of};
+ghost use Rattle.mfweb.specs.Calls.{Begins, DoesNotAdd, DoesNotBegin, pair, words_of};
 ghost use Rattle.mfweb.specs.Showing.{DoesNotPrint, FindsCode, FindsNoCode, PrintsEntry, number_in};
 
 use crate::status::NO_CODE;
@@ -32,20 +31,6 @@ pub struct WebRoute {
     pub has_delete: u8,
     /// Whether the text has a prefix: 0 where it does not.
     pub has_prefix: u8,
-}
-
-/// How long the tones of a keying last, and the silences between them, each in ms.
-#[repr(C)]
-#[derive(Clone, Copy)]
-pub struct WebCadence {
-    /// The silence before KP.
-    pub lead_ms: u16,
-    /// The tone of KP.
-    pub kp_ms: u16,
-    /// The tone of a digit, and of ST.
-    pub key_ms: u16,
-    /// The silence after each tone, ST too.
-    pub gap_ms: u16,
 }
 
 /// Writes the standard limits.
@@ -167,16 +152,10 @@ pub extern "C" fn mfweb_entry(
 
 /// Writes the times of a sender.
 #[unsafe(no_mangle)]
-pub extern "C" fn mfweb_cadence(cadence: &mut WebCadence)
-    ensures { cadence_of cadence.new ≡ standard_cadence }
+pub extern "C" fn mfweb_cadence(cadence: &mut Cadence)
+    ensures { cadence.new ≡ standard_cadence }
 {
-    let standard = Cadence::standard();
-    *cadence = WebCadence {
-        lead_ms: standard.lead_ms,
-        kp_ms: standard.kp_ms,
-        key_ms: standard.key_ms,
-        gap_ms: standard.gap_ms,
-    };
+    *cadence = Cadence::standard();
 }
 
 /// Fills the room with the first samples of a tone of two frequencies, 8,000 samples a second. A room of 2^32

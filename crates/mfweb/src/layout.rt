@@ -3,13 +3,14 @@ ghost use Rattle.std.specs.Prelude.{◌≡◌, ◌≢◌, ◌≤◌, ◌<◌, le
 ghost use Rattle.mfweb.specs.declared.layout.TheConstants.{LAYOUT};
 
 use crate::ears::{WebEar, WebHeard, WebSight};
-use crate::exports::{WebCadence, WebRoute};
+use crate::exports::WebRoute;
 use crate::lamps::{WebDigit, WebLamps};
 use crate::status::NO_ROOM;
 use crate::taking::WebTaken;
 use std::mem::size_of;
 use xb_model::Limits;
 use xb_onward::{PlainKey, PlainOutcome};
+use xb_sound::Cadence;
 use xb_structs::{DONE, PlainLine, PlainMark, PlainRoute, PlainRow, PlainSignal, PlainTable};
 
 // A struct in a text line: its name, its bytes, and each field with its type and where it begins. No struct has bytes
@@ -57,7 +58,7 @@ const _: () = prove!(size_of::<WebLamps>() == 68);
 
 const _: () = prove!(size_of::<WebTaken>() == 584);
 
-const _: () = prove!(size_of::<WebCadence>() == 8);
+const _: () = prove!(size_of::<Cadence>() == 8);
 
 const _: () = prove!(size_of::<WebSight>() == 24);
 

@@ -12,7 +12,9 @@ pub const LONGEST_LEAD_MS: u16 = 60_000;
 /// The longest tone, and the longest silence after one, in ms: a limit of our own.
 pub const LONGEST_MS: u16 = 10_000;
 
-/// How long the tones of a keying last, and the silences between them, each in ms.
+/// How long the tones of a keying last, and the silences between them, each in ms. They lie in memory as C has them, for
+/// a caller of another language.
+#[repr(C)]
 #[derive(Clone, Copy, Debug, PartialEq, Eq)]
 pub struct Cadence {
     /// The silence before KP.
