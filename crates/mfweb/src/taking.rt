@@ -10,8 +10,8 @@ use crate::lamps::{WebDigit, WebLamps, attempt_of, lamps_of};
 use crate::wrong::wrong_by;
 use xb_model::Relays;
 use xb_structs::{
-    DONE, PlainLine, PlainMark, PlainRow, PlainSignal, PlainTable, Refusal, limits_in,
-    refusal_status, signals, take,
+    DONE, PlainLine, PlainMark, PlainRow, PlainSignal, PlainTable, Refusal, refusal_status,
+    signals, take,
 };
 
 // What the digit is that a row ended, where it is none, and where the row ended none.
@@ -112,7 +112,7 @@ fn take_row(
     taken.mark_count = mark_count as u32;
     taken.signal_count = signal_count as u32;
     taken.lamps = lamps_of(&after);
-    taken.wrong = wrong_by(limits_in(table), &line.pulse, row);
+    taken.wrong = wrong_by(table.limits, &line.pulse, row);
     taken.digit = digit_of_first(&taken.signals[..signal_count]);
     taken.listens = u32::from(attempt_of(&line.register) == LISTENS);
     Ok((taken, after))

@@ -66,5 +66,5 @@ pub use status::{
     DONE, fault_place, fault_status, not_heard_status, not_routed_status, print_status,
     refusal_status,
 };
-pub use table::{PlainTable, limits_in};
+pub use table::PlainTable;
 pub use taking::take;

@@ -27,12 +27,14 @@ fn unopened() -> PlainTable {
     };
     PlainTable {
         plan: 0,
-        pulse_min: 0,
-        pulse_max: 0,
-        make_min: 0,
-        pause: 0,
-        release: 0,
-        timeout: 0,
+        limits: Limits {
+            pulse_min: 0,
+            pulse_max: 0,
+            make_min: 0,
+            pause: 0,
+            release: 0,
+            timeout: 0,
+        },
         count: 0,
         routes: [route; 1000],
     }
