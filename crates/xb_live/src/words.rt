@@ -1,13 +1,13 @@
 // The words of the program, and what they ask for.
 ghost use Rattle.std.specs.Prelude.{◌≡◌, IfErr, IfOk};
-ghost use Rattle.xb_live.specs.Options.{AskNothing, Say, SayAsked, asks_entries, cadence_of, form_of, form_with_events, goes_with_sound, line_of, objects_since, request_of, start_of};
+ghost use Rattle.xb_live.specs.Options.{AskNothing, Say, SayAsked, asks_entries, cadence_of, form_of, form_with_events, goes_with_sound, objects_since, request_of, start_of};
 
 use crate::entry_text::EntryForm;
 use crate::request::{Asked, Request};
 use jiff_core::Timestamp;
 use xb_clock::{Since, no_time, since_of};
 use xb_command::{FLAG, Misfit, NOTHING, Program, Value, Word, Words};
-use xb_model::{LINES, LineNo};
+use xb_model::LineNo;
 use xb_sound::Cadence;
 
 /// The program and its words.
@@ -241,17 +241,6 @@ fn cadence_of(options: Options<'_>) -> Cadence
     )
 }
 
-// The line of a number, where there is one.
-fn line_of(number: u32) -> Option<LineNo>
-    ensures { result ≡ line_of number }
-{
-    if number < u32::from(LINES) {
-        LineNo::new(number as u16)
-    } else {
-        None
-    }
-}
-
 // The line whose winks are the starts of a line, if one is asked for; nothing where there is no such other line.
 fn start_of(given: Option<u32>, line: LineNo) -> Option<Option<LineNo>>
     ensures { result ≡ start_of given line }
@@ -259,7 +248,7 @@ fn start_of(given: Option<u32>, line: LineNo) -> Option<Option<LineNo>>
     let Some(number) = given else {
         return Some(None);
     };
-    let start = line_of(number)?;
+    let start = LineNo::of_number(number)?;
     if start == line {
         None
     } else {
@@ -275,7 +264,7 @@ fn request_of(options: Options<'_>) -> Option<Request>
     match options.sound {
         Some(_) if asks_entries(options) => None,
         Some(number) => {
-            let line = line_of(number)?;
+            let line = LineNo::of_number(number)?;
             match start_of(options.start, line)? {
                 None => Some(Request::Sound(line, cadence_of(options))),
                 Some(start) => Some(Request::StartedSound(line, start, cadence_of(options))),

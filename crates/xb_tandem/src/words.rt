@@ -5,7 +5,7 @@ ghost use Rattle.xb_tandem.specs.Options.{IsMisfit, Say, are_both, asked_by, for
 use crate::request::{Asked, Form, Request};
 use xb_command::{FLAG, Misfit, NOTHING, Program, Value, Word, Words};
 use xb_incoming::TIME_OUT_MS;
-use xb_model::{LINES, LineNo};
+use xb_model::LineNo;
 
 /// The program and its words.
 pub const PROGRAM: Program<'static> = Program {
@@ -109,12 +109,7 @@ pub(crate) fn options_of<'a>(words: &Words<'a>) -> Options<'a>
 fn line_of(given: Option<u32>) -> Option<LineNo>
     ensures { result ≡ line_of given }
 {
-    let line = given.unwrap_or(0);
-    if line < u32::from(LINES) {
-        LineNo::new(line as u16)
-    } else {
-        None
-    }
+    LineNo::of_number(given.unwrap_or(0))
 }
 
 // The time-out that is given, or that of a register.
