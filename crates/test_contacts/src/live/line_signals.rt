@@ -86,7 +86,14 @@ fn refused_with_its_good_digits(rt: HostRuntime) -> Result<(), Fail> {
     assert_eq!(rt; dialled(&line, &mut digits), 2);
     assert_eq!(rt; digits[0], 2);
     assert_eq!(rt; digits[1], 3);
-    gives(&rt, &table, &mut line, HeardSignal::MutilatedDigit, &mut room, 1);
+    gives(
+        &rt,
+        &table,
+        &mut line,
+        HeardSignal::MutilatedDigit,
+        &mut room,
+        1,
+    );
     assert!(rt; is_same(&room[0], &mark(4, 2, 0, 0)));
     assert_eq!(rt; dialled(&line, &mut digits), 0);
     Ok(())

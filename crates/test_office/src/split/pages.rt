@@ -14,7 +14,8 @@ KEYED 1 REFUSED 2\n";
 const NONE: &[u8] = b"KEYED 0 REFUSED 0\n";
 
 /// The page of line 9999.
-pub const LAST: &[u8] = b"9999 1 KEYED 0003 KP:1100+1700 4:700+1300 1:700+900 1:700+900 ST:1500+1700\n\
+pub const LAST: &[u8] =
+    b"9999 1 KEYED 0003 KP:1100+1700 4:700+1300 1:700+900 1:700+900 ST:1500+1700\n\
 KEYED 1 REFUSED 0\n";
 
 /// The page of both.
