@@ -1,13 +1,13 @@
 """Makes a clock of the edges of a pin: rows SECONDS,LEVEL with each edge, and ten times a second between.
 
-usage: gpiomon -c gpiochip0 -b pull-up -l --format '%S,%e' 17 | beat.py [--open]
-       gpiomon -c gpiochip0 -b pull-up -l --format '%S,%e,%o' 17 27 | beat.py [--open] 17 27
-       gpiomon --line-buffered -B pull-up -l --format '%s.%n,%e' gpiochip0 17 | beat.py [--open]
+usage: gpiomon -c gpiochip0 -b pull-up -l 17 | beat.py [--open]
+       gpiomon -c gpiochip0 -b pull-up -l 17 27 | beat.py [--open] 17 27
+       gpiomon --line-buffered -B pull-up -l gpiochip0 17 | beat.py [--open]
 
 An edge alone is no clock: that a digit has ended shows only with the next one. `mfbench` and `mfloop` take these rows as
-they come (--format edges). The first two are of libgpiod 2, the third is of libgpiod 1. Where several pins are named, a
-row has a level for each, in their order. A pin is closed at first; with --open it is open. An edge that comes
-after a beat of a later time is dated with that beat, and counted on standard error at the end.
+they come (--format edges). The first two lines are of libgpiod 2, the third is of libgpiod 1. Where pins are named, a row has
+a level for each, in their order; else all edges are of one pin. A pin is closed at first; with --open it is open. An edge
+that comes after a beat of a later time is dated with that beat, and counted on standard error at the end.
 """
 import os
 import re
@@ -20,7 +20,11 @@ BEAT_NS = 100 * 10**6
 BEHIND_NS = 30 * 10**6
 # Times count from so long before the start, since edges may wait to be read then.
 BEFORE_NS = 10**9
-EDGE = re.compile(rb"([0-9]+)\.([0-9]{9}),([012])(?:,([0-9]+))?")
+# What gpiomon of libgpiod 1 and 2 prints, if nothing else is asked for. (Its own %n of libgpiod 1 leaves out zeros.)
+EDGES = (
+    re.compile(r"event: +(?P<edge>RISING|FALLING) EDGE +offset: +(?P<pin>[0-9]+) +timestamp: +\[ *(?P<s>[0-9]+)\.(?P<ns>[0-9]{9})\]"),
+    re.compile(r"(?P<s>[0-9]+)\.(?P<ns>[0-9]{9})\s+(?P<edge>rising|falling)\s+(?P<pin>.*)"),
+)
 READER_IS_GONE, INTERRUPTED = 141, 130
 
 
@@ -48,19 +52,21 @@ class Beat:
         self._at = max(self._at, now - BEHIND_NS)
         self._write()
 
-    def take(self, number: int, text: bytes) -> None:
-        """Takes an edge: 1 rises, and 0 (of libgpiod 1) or 2 (of libgpiod 2) falls."""
-        edge = EDGE.fullmatch(text)
-        if not edge or self._pins and edge[4] not in self._pins:
-            raise EdgesError(f"text line {number} is no edge SECONDS.NANOSECONDS,EDGE of a pin that is named")
-        at = int(edge[1]) * 10**9 + int(edge[2])
+    def take(self, number: int, text: str) -> None:
+        """Takes an edge as gpiomon prints it."""
+        edge = next(filter(None, (form.fullmatch(text) for form in EDGES)), None)
+        names = [name.strip('"') for name in edge["pin"].split()] if edge else []
+        places = [place for place, pin in enumerate(self._pins) if pin in names]
+        if not edge or self._pins and not places:
+            raise EdgesError(f"text line {number} is no edge of gpiomon, or of a pin that is not named")
+        at = int(edge["s"]) * 10**9 + int(edge["ns"])
         if len(self._clocks) > 1:
             nearest = min((0, 1), key=lambda clock: abs(at - self._starts[clock]))
             self._clocks, self._starts = [self._clocks[nearest]], [self._starts[nearest]]
         at -= self._starts[0]
         self.late += at < self._at
         self._at = max(self._at, at)
-        self._levels[self._pins.index(edge[4]) if self._pins else 0] = int(edge[3] == b"1")
+        self._levels[places[0] if places else 0] = int(edge["edge"].lower() == "rising")
         self._write()
 
 
@@ -76,7 +82,7 @@ def follow(beat: Beat) -> None:
             *lines, left = (left + piece).split(b"\n")
             for text in lines:
                 number += 1
-                beat.take(number, text)
+                beat.take(number, text.decode("utf-8", "replace").rstrip("\r"))
         else:
             beat.beat()
         due = time.monotonic_ns() + BEAT_NS
@@ -86,12 +92,13 @@ def main(words: list) -> int:
     """Does what the words ask."""
     is_open = words[:1] == ["--open"]
     pins = words[is_open:]
-    if not all(pin.isdecimal() for pin in pins) or len(set(pins)) < len(pins):
-        print(__doc__, file=sys.stderr)
-        return 2
+    if any(pin.startswith("-") for pin in pins) or len(set(pins)) < len(pins):
+        is_help = words in (["--help"], ["-h"])
+        print(__doc__, file=sys.stdout if is_help else sys.stderr)
+        return 0 if is_help else 2
     status = 0
     try:
-        beat = Beat([pin.encode() for pin in pins], int(not is_open))
+        beat = Beat(pins, int(not is_open))
         try:
             follow(beat)
         finally:

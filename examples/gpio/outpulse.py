@@ -161,11 +161,10 @@ class Trunk:
                 return
             self._player.tell(f"the far office is {'off' if edge[1] else 'on'} hook")
 
-    def release(self, ms: int) -> None:
-        """Releases the trunk, which is on hook for so long."""
+    def release(self) -> None:
+        """Releases the trunk."""
         self._player.put(0)
         self._player.tell("released")
-        self._player.rest(ms)
 
 
 def dial(trunk: Trunk, player: Player, rows) -> int:
@@ -181,14 +180,15 @@ def dial(trunk: Trunk, player: Player, rows) -> int:
             given_up += not is_called
             is_seizing = trunk.start is not None
         is_seizing = is_seizing and bool(level)
-        if is_called and is_release:
-            trunk.hold()
-            trunk.release(ms)
+        if is_release:
+            if is_called:
+                trunk.hold()
+                trunk.release()
+            player.rest(ms)
+            is_on_hook, is_called = True, False
         elif is_called and not is_seizing:
             player.put(level)
             player.rest(ms)
-        if is_release:
-            is_on_hook, is_called = True, False
     return given_up
 
 
@@ -203,7 +203,8 @@ def sound(trunk: Trunk, player: Player, command: str) -> int:
     if status:
         player.tell(f"the command ends with status {status}")
     trunk.hold()
-    trunk.release(RELEASE_MS)
+    trunk.release()
+    player.rest(RELEASE_MS)
     return int(status != 0)
 
 
