@@ -21,6 +21,7 @@ try:
 except ImportError:  # some builds of Python have none
     curses = None
 
+sys.dont_write_bytecode = True  # no folder beside what is installed
 from pins import open_pins
 
 STATES = ("ON HOOK", "SEIZED", "DIALLING", "COMPLETE", "REFUSED")

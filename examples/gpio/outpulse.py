@@ -11,6 +11,7 @@ import subprocess
 import sys
 import time
 
+sys.dont_write_bytecode = True  # no folder beside what is installed
 from pins import open_pins
 
 MS = 10**6  # nanoseconds

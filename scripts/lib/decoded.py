@@ -1,7 +1,7 @@
 """What the decoder of examples/sigrok tells of a recording, without sigrok, and what it has to tell by mfbench.
 
 usage: decoded.py told FORM FILE WIRE [OPTION=VALUE]...   FORM is vcd, or bits:RATE
-       decoded.py wanted < OBJECTS                         OBJECTS are those of mfbench --json, of one line
+       decoded.py wanted LINE < OBJECTS                    OBJECTS are those of mfbench --json
 
 Each prints a text for each digit, its figures and its verdict, as sigrok-cli prints them. In `told` a module stands for that
 of libsigrokdecode: it has what its documents say that a decoder may call, and a recording that is a list of edges.
@@ -128,9 +128,9 @@ def name_of(told: dict) -> str:
     return f"Spoiled: {fault['kind']} {fault['ms']} ms {'<' if fault['kind'].startswith('SHORT') else '>'} {fault['limit']}"
 
 
-def wanted() -> None:
-    """Prints what the decoder has to tell. Of pulses that the end of the recording cuts off sigrok tells nothing."""
-    objects = list(map(json.loads, sys.stdin))
+def wanted(line: str) -> None:
+    """Prints what the decoder has to tell of a line. Of pulses that the end of the recording cuts off sigrok tells nothing."""
+    objects = [it for it in map(json.loads, sys.stdin) if it.get("line") == int(line)]
     for it, after in zip(objects, objects[1:]):
         if it["event"] == "DIGIT" or it["event"] == "UNFINISHED" and after["event"] == "RELEASED":
             print(name_of(it))
