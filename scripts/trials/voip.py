@@ -5,7 +5,7 @@ usage: voip.py PORT CALLEE LOST JITTER SEED
 It takes SIP at PORT of 127.0.0.1 for the telephone at CALLEE, and puts ports of its own into the descriptions of sessions.
 Of the packets of sound that come from the caller, LOST of 1,000 are lost, and each other one is delayed by up to JITTER ms,
 by a seed, so that some overtake others. At its end, by SIGTERM, it says how many packets it passed on, lost, and let be
-overtaken.
+overtaken, and by how many ms the latest of them was later than that.
 """
 import asyncio
 import random
@@ -21,7 +21,7 @@ class Counts:
     """What became of the packets of sound."""
 
     def __init__(self):
-        self.passed = self.lost = self.overtaken = self.last = 0
+        self.passed = self.lost = self.overtaken = self.last = self.latest = 0
 
 
 class Media(asyncio.DatagramProtocol):
@@ -56,10 +56,13 @@ class Network:
         if self.random.randrange(1000) < self.lost:
             self.counts.lost += 1
             return
-        asyncio.get_running_loop().call_later(self.random.uniform(0, self.jitter) / 1000, self.leave, data, send)
+        loop = asyncio.get_running_loop()
+        due = loop.time() + self.random.uniform(0, self.jitter) / 1000
+        loop.call_at(due, self.leave, data, send, due)
 
-    def leave(self, data: bytes, send) -> None:
+    def leave(self, data: bytes, send, due: float) -> None:
         """A packet goes on."""
+        self.counts.latest = max(self.counts.latest, asyncio.get_running_loop().time() - due)
         number = int.from_bytes(data[2:4], "big")
         self.counts.passed += 1
         self.counts.overtaken += 0 < (self.counts.last - number) % 65536 < 1000
@@ -104,7 +107,7 @@ async def main(port: int, callee: int, lost: int, jitter: int, seed: int) -> Non
     await loop.create_datagram_endpoint(lambda: Sip(("127.0.0.1", callee), network), local_addr=("127.0.0.1", port))
     await end.wait()
     counts = network.counts
-    print(counts.passed, counts.lost, counts.overtaken)
+    print(counts.passed, counts.lost, counts.overtaken, round(counts.latest * 1000))
 
 
 asyncio.run(main(*map(int, sys.argv[1:])))
