@@ -170,7 +170,7 @@ class Trunk:
 
 def dial(trunk: Trunk, player: Player, rows) -> int:
     """Plays rows, and returns how many calls were given up. A call begins with the first make on hook, and ends with a break
-    that hangs up. Where a start signal is waited for, that takes the place of the make."""
+    that hangs up, or with the rows. Where a start signal is waited for, that takes the place of the make."""
     is_called = is_seizing = False
     given_up = 0
     is_on_hook = True
@@ -190,6 +190,9 @@ def dial(trunk: Trunk, player: Player, rows) -> int:
         elif is_called and not is_seizing:
             player.put(level)
             player.rest(ms)
+    if is_called:
+        trunk.hold()
+        trunk.release()
     return given_up
 
 
