@@ -1,3 +1,4 @@
+#!/usr/bin/env python3
 """An AGI script of Asterisk: hears the digits of a call, and leaves in MF what a No. 5 Crossbar office keys for it.
 
 usage: AGI(agi.py,TABLE,LIBRARY)   TABLE is a file with a route table

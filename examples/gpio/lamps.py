@@ -7,10 +7,10 @@ The first shows a row for each line that was seized: five lamps, of which one is
 complete, refused), its digits as two out of five, and what was keyed last, or why a call was refused. At the end of the
 events, or at ctrl-C, the rows stay.
 
-With --gpio it prints a command for each event instead, in the words of gpioset of libgpiod 1, which lights the lamp on
-one of five pins of the line. A shell does what it prints:
+With --gpio it lights lamps on five pins of a line instead, by libgpiod 1 or 2 (pins.py), until the events end. Where
+CHIP is `log` nothing is lit: standard output gets a row for each change, its time in seconds and the level of each pin.
 
-    mflive --events DECK | lamps.py --gpio gpiochip0 7=17,27,22,23,24 | sh
+    mflive --events DECK | lamps.py --gpio gpiochip0 7=17,27,22,23,24
 """
 import json
 import os
@@ -20,6 +20,9 @@ try:
     import curses
 except ImportError:  # some builds of Python have none
     curses = None
+
+sys.dont_write_bytecode = True  # no folder beside what is installed
+from pins import open_pins
 
 STATES = ("ON HOOK", "SEIZED", "DIALLING", "COMPLETE", "REFUSED")
 WEIGHTS = (0, 1, 2, 4, 7)
@@ -135,19 +138,23 @@ def pins_of(words: list) -> dict:
     return pins
 
 
-def command(chip: str, pins: list, line: Line) -> str:
-    """The command that lights the lamp of what a line does, and no other of it."""
-    levels = (f"{pin}={int(state == line.state)}" for pin, state in zip(pins, STATES))
-    return f"gpioset {chip} {' '.join(levels)}"
+def levels_of(lines: dict) -> list:
+    """The levels of the pins of lines: the lamp of what each does is lit, and no other of it."""
+    return [int(state == line.state) for line in lines.values() for state in STATES]
 
 
 def light(chip: str, pins: dict) -> None:
-    """Prints a command for each event of the lines that have pins."""
+    """Lights the lamps of the lines that have pins."""
     lines = {number: Line() for number in pins}
-    for told in events():
-        if told["line"] in pins:
-            lines[told["line"]].take(told)
-            print(command(chip, pins[told["line"]], lines[told["line"]]), flush=True)
+    lamps = open_pins(chip, [pin for five in pins.values() for pin in five])
+    try:
+        lamps.set(levels_of(lines))
+        for told in events():
+            if told["line"] in pins:
+                lines[told["line"]].take(told)
+                lamps.set(levels_of(lines))
+    finally:
+        lamps.close()
 
 
 def light_words(words: list) -> None:
@@ -184,7 +191,10 @@ def main(words: list) -> int:
             raise ValueError(words)
         else:
             show_rows()
-    except LampsError as fault:
+    except (LampsError, OSError) as fault:
+        if isinstance(fault, BrokenPipeError):
+            os.dup2(os.open(os.devnull, os.O_WRONLY), sys.stdout.fileno())
+            return READER_IS_GONE
         print(f"lamps.py: {fault}", file=sys.stderr)
         status = 1
     except ValueError:
@@ -192,9 +202,6 @@ def main(words: list) -> int:
         status = 2
     except KeyboardInterrupt:
         status = INTERRUPTED
-    except BrokenPipeError:
-        os.dup2(os.open(os.devnull, os.O_WRONLY), sys.stdout.fileno())
-        status = READER_IS_GONE
     return status
 
 
