@@ -331,7 +331,7 @@ class Office {
   }
 
   begin() {
-    for (const table of [this.table, this.second.table]) table.begin(withAllCodes(table.text.value));
+    for (const table of [this.table, this.second.table]) table.begin(withAllCodes(table.text.defaultValue));
     this.listen();
     // nobody asked for what the page shows at first, so it is not said
     $('read').setAttribute('aria-live', 'off');
