@@ -180,6 +180,8 @@ class Telephone {
   // What the register was told. It is kept before it is drawn.
   told(signal, { digit, listens, at }) {
     const words = { [Signal.SEIZED]: 'seized', [Signal.TIMED_OUT]: 'time-out', [Signal.RELEASED]: 'released' };
+    // while people talk no time is out
+    if (signal.kind === Signal.TIMED_OUT && this.outcome) return;
     if (signal.kind !== Signal.DIGIT) {
       this.note(words[signal.kind] ?? '', signal.kind === Signal.TIMED_OUT ? 'bad' : '', at);
       return;
@@ -252,7 +254,8 @@ class Telephone {
     const now = [state.phase, state.attempt, state.breaks, this.outcome, this.digits.length].join();
     if (now === this.shown) return;
     this.shown = now;
-    this.find('phase').textContent = PHASES[state.phase];
+    const isTalked = state.phase === TIMED_OUT_PHASE && this.outcome === 'complete';
+    this.find('phase').textContent = PHASES[isTalked ? CLOSED_PHASE : state.phase];
     const heard = this.find('heard');
     const words = this.outcome || ATTEMPTS[state.attempt];
     if (heard.textContent !== words) heard.textContent = words;
