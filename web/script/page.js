@@ -121,6 +121,9 @@ class Office {
   entryGiven(telephone, text, marks) {
     if (this.demonstrated > 0) this.demonstrated -= 1;
     const number = telephone.numberDialled();
+    // a keying that sounds once more ends no later call
+    const { turn } = telephone;
+    const isOver = () => { if (turn === telephone.turn) telephone.isOver(); };
     this.keepsakes.entryGiven(telephone, number);
     this.reach($('routing'));
     if (isRefusal(marks[0])) {
@@ -129,7 +132,7 @@ class Office {
       this.route.showRefused(telephone.name, why);
       const label = `${telephone.name}, refused: ${why}`;
       guarded(() => this.tape.addPicture(entry, new AttemptPicture(telephone.attempt, label).svg));
-      telephone.isOver();
+      isOver();
       return;
     }
     const keyed = marks.filter((mark) => mark.kind === Kind.DIGIT).map((mark) => mark.value).join('');
@@ -138,7 +141,7 @@ class Office {
     const told = (keys, heard) => {
       this.tape.showHeard(entry, keys, heard);
       this.explain.at('far');
-      telephone.isOver();
+      isOver();
     };
     const send = () => {
       this.reach($('sending'));

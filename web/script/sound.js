@@ -8,7 +8,7 @@ const NOISE_LEVEL = 0.3;
 const LOUD_NOISE = 1000;
 const FADE_S = 0.005;
 // A click sounds so long after its make or break, so that the page, which is late by up to this, keeps their times.
-const CLICK_DELAY_MS = 40;
+const CLICK_DELAY_MS = 60;
 const CLICKS_APART_S = 0.02;
 
 // A browser makes more samples of 8,000 a second by straight lines, and that gives each tone images above 4 kHz. A

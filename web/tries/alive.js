@@ -50,8 +50,13 @@ async function tryShownCalls(it) {
   is('and hangs up by itself', [await it.run(isDown), await it.text('.number')], [true, '411']);
   await it.dial('411');
   await it.untilEntries(2);
-  await sleep(6000);
+  await it.until('document.querySelector("#entries li:last-child .far")');
+  await sleep(4000);
   is('a call of the visitor does not', await it.run(isDown), false);
+  await it.soundAgain();
+  await it.click('[data-number="2345678"]');
+  await it.untilEntries(3);
+  is('and one that sounds again ends no later one', / KEYED 0017 /.test((await it.entries())[2]), true);
 }
 
 // ---- two fingers
