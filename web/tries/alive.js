@@ -161,9 +161,11 @@ async function tryRests(it) {
 }
 
 async function tryAlive(it) {
+  await it.send('Emulation.setTouchEmulationEnabled', { enabled: true, maxTouchPoints: 5 });
   await tryAfter(it);
   await tryShownCalls(it);
   await tryFingers(it);
+  await it.send('Emulation.setTouchEmulationEnabled', { enabled: false });
   await tryFaults(it);
   await tryRests(it);
 }
