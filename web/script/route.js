@@ -1,6 +1,6 @@
 // The view of the route table: its routes, and the one that the module says decides a number.
 
-const MOST_SHOWN_ROUTES = 6;
+const MOST_SHOWN_ROUTES = 4;
 
 // A route in the words of its table.
 function routeText(route) {
