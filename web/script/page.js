@@ -221,8 +221,8 @@ class Office {
   }
 
   // A browser gives sound from the first gesture on, and so does the page, unless its visitor turned it off.
-  gesture({ key, target }) {
-    const isNone = key === 'Tab' || key === 'Escape' || target.closest?.('#sound');
+  gesture({ key, target, isTrusted }) {
+    const isNone = !isTrusted || key === 'Tab' || key === 'Escape' || target.closest?.('#sound');
     if (!isNone && !this.isSilenced && !this.sound.isOn) this.setSound(true);
   }
 
