@@ -11,6 +11,9 @@ class Clock {
 
   now() { return this.stands ?? this.before + (performance.now() - this.began) * this.pace; }
 
+  // How many ms of the visitor's time a moment is past.
+  ago(moment) { return (this.before - moment) / this.pace + performance.now() - this.began; }
+
   // Does something as at a moment that has passed.
   at(moment, what) {
     this.stands = moment;

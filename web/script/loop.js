@@ -49,10 +49,11 @@ class Loop {
     const taken = this.module.lastTaken();
     // an entry is given whatever became of the picture of its row
     try {
-      this.listener.rowTaken({ closed, ms, from, at: until, ...taken });
+      const { signals, wrong, digit, listens } = taken;
+      this.listener.rowTaken({ closed, ms, from, at: until, signals, wrong, digit, listens });
     } finally {
-      const { marks, lamps } = taken;
-      if (marks.length) this.listener.entryGiven(this.module.entryText(this.line, lamps.entries, marks), marks);
+      const { marks } = taken;
+      if (marks.length) this.listener.entryGiven(this.module.entryText(this.line, taken.lamps.entries, marks), marks);
     }
   }
 }

@@ -43,7 +43,7 @@ export type Signal =
     isHeard: boolean;
   };
 
-/** What a row gives. */
+/** What a row gives. Its lamps are read when they are asked for. */
 export interface Row extends Given {
   signals: Signal[];
   /** What is wrong with the make or break of a digit that the row ended. */
@@ -96,11 +96,11 @@ export class Register {
   end(): Sent[];
 }
 
-/** Hears samples of 16 bits, 8,000 a second, in parts of any lengths. */
+/** Hears samples of 16 bits, or from -1 to 1, 8,000 a second, in parts of any lengths. */
 export class Ear {
   constructor(chain: Chain);
   /** The keys that these samples end. */
-  hear(samples: Int16Array): Key[];
+  hear(samples: Int16Array | Float32Array): Key[];
   /** The key that sounds where the samples end, if there is one. */
   end(): Key[];
 }
