@@ -148,9 +148,17 @@ impl<'a> Work<'a> for Asked<'a> {
     }
 
     fn run<F: Files, R: Read, W: Write, E: Write>(self, given: Given<'_, 'a, F, R, W, E>) -> u8 {
-        match print(given.alloc, self.request, given.input, given.out) {
+        let Given {
+            input,
+            out,
+            err,
+            alloc,
+            program,
+            ..
+        } = given;
+        match print(alloc, self.request, input, out) {
             Ok(()) => DONE,
-            Err(fault) => tell_fault(given.alloc, given.err, given.program.name, fault),
+            Err(fault) => tell_fault(alloc, err, program.name, fault),
         }
     }
 }

@@ -92,41 +92,35 @@ impl<'a, P: Work<'a>> Work<'a> for Asked<'a, P> {
     }
 
     fn run<F: Files, R: Read, W: Write, E: Write>(self, given: Given<'_, 'a, F, R, W, E>) -> u8 {
+        let Given {
+            input,
+            out,
+            err,
+            alloc,
+            program,
+            files,
+        } = given;
         let Asked {
             request,
             recording,
             ..
         } = self;
         let Some(Recording { printer, has_table }) = recording else {
-            return answer(
-                given.alloc,
-                request,
-                given.program,
-                given.input,
-                given.out,
-                given.err,
-            );
+            return answer(alloc, request, program, input, out, err);
         };
-        let mut rows = Vec::new(given.alloc);
+        let mut rows = Vec::new(alloc);
         let status = printer.run(Given {
-            input: given.input,
+            input,
             out: &mut rows,
-            err: &mut *given.err,
-            alloc: given.alloc,
-            program: given.program,
-            files: given.files,
+            err: &mut *err,
+            alloc,
+            program,
+            files,
         });
         if status != DONE {
             return status;
         }
         let mut deck = before_rows(has_table).chain(rows.as_slice());
-        answer(
-            given.alloc,
-            request,
-            given.program,
-            &mut deck,
-            given.out,
-            given.err,
-        )
+        answer(alloc, request, program, &mut deck, out, err)
     }
 }

@@ -124,13 +124,14 @@ impl<'a> Work<'a> for Asked<'a> {
     }
 
     fn run<F: Files, R: Read, W: Write, E: Write>(self, given: Given<'_, 'a, F, R, W, E>) -> u8 {
-        answer(
-            given.alloc,
-            self.request,
-            given.program,
-            given.input,
-            given.out,
-            given.err,
-        )
+        let Given {
+            input,
+            out,
+            err,
+            alloc,
+            program,
+            ..
+        } = given;
+        answer(alloc, self.request, program, input, out, err)
     }
 }

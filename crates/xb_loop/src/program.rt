@@ -194,25 +194,18 @@ impl<'a> Work<'a> for Asked<'a> {
     }
 
     fn run<F: Files, R: Read, W: Write, E: Write>(self, given: Given<'_, 'a, F, R, W, E>) -> u8 {
+        let Given {
+            input,
+            out,
+            err,
+            alloc,
+            program,
+            files,
+        } = given;
         if self.list {
-            answer_wires(
-                given.alloc,
-                &self.request,
-                given.program,
-                given.input,
-                given.out,
-                given.err,
-            )
+            answer_wires(alloc, &self.request, program, input, out, err)
         } else {
-            answer_rows(
-                given.alloc,
-                given.files,
-                self.request,
-                given.program,
-                given.input,
-                given.out,
-                given.err,
-            )
+            answer_rows(alloc, files, self.request, program, input, out, err)
         }
     }
 }

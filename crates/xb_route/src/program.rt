@@ -22,9 +22,17 @@ impl<'a> Work<'a> for Request<'a> {
     }
 
     fn run<F: Files, R: Read, W: Write, E: Write>(self, given: Given<'_, 'a, F, R, W, E>) -> u8 {
-        match route(given.alloc, given.files, &self, given.input, given.out) {
+        let Given {
+            input,
+            out,
+            err,
+            alloc,
+            program,
+            files,
+        } = given;
+        match route(alloc, files, &self, input, out) {
             Ok(()) => DONE,
-            Err(fault) => tell_fault(given.alloc, given.err, given.program.name, fault),
+            Err(fault) => tell_fault(alloc, err, program.name, fault),
         }
     }
 }

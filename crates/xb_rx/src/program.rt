@@ -61,20 +61,28 @@ impl<'a> Work<'a> for Asked<'a> {
 
     #[tactic(auto, using(crate::proofs::Formed::formed))]
     fn run<F: Files, R: Read, W: Write, E: Write>(self, given: Given<'_, 'a, F, R, W, E>) -> u8 {
+        let Given {
+            input,
+            out,
+            err,
+            alloc,
+            program,
+            files,
+        } = given;
         let request = Request {
             written: self.written,
             since: self.since,
             input: self.input,
         };
         answer(
-            given.alloc,
+            alloc,
             request,
             self.against,
-            given.program,
-            given.files,
-            given.input,
-            given.out,
-            given.err,
+            program,
+            files,
+            input,
+            out,
+            err,
         )
     }
 }

@@ -70,22 +70,17 @@ impl<'a> Work<'a> for Asked<'a> {
     }
 
     fn run<F: Files, R: Read, W: Write, E: Write>(self, given: Given<'_, 'a, F, R, W, E>) -> u8 {
-        match relay(
-            given.alloc,
-            given.files,
-            self.table,
-            self.request,
-            given.input,
-            given.out,
-        ) {
-            Ok(left) => tell_note(
-                given.alloc,
-                given.err,
-                given.program,
-                self.request.form,
-                left,
-            ),
-            Err(fault) => tell_fault(given.alloc, given.err, given.program.name, fault),
+        let Given {
+            input,
+            out,
+            err,
+            alloc,
+            program,
+            files,
+        } = given;
+        match relay(alloc, files, self.table, self.request, input, out) {
+            Ok(left) => tell_note(alloc, err, program, self.request.form, left),
+            Err(fault) => tell_fault(alloc, err, program.name, fault),
         }
     }
 }

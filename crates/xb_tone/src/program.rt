@@ -25,9 +25,17 @@ impl<'a> Work<'a> for Asked<'a> {
     }
 
     fn run<F: Files, R: Read, W: Write, E: Write>(self, given: Given<'_, 'a, F, R, W, E>) -> u8 {
-        match play_asked(given.alloc, self, given.input, given.out, given.err) {
+        let Given {
+            input,
+            out,
+            err,
+            alloc,
+            program,
+            ..
+        } = given;
+        match play_asked(alloc, self, input, out, err) {
             Ok(()) => DONE,
-            Err(fault) => tell_fault(given.alloc, given.err, given.program.name, fault),
+            Err(fault) => tell_fault(alloc, err, program.name, fault),
         }
     }
 }
