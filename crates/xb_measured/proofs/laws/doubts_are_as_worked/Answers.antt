@@ -1,9 +1,10 @@
 use Rattle.std.proofs.Common.{refl}
 use Rattle.xb_measured.specs.Doubts.{doubts_after}
+use Rattle.xb_measured.specs.Meanings.{meaning_of}
 use Rattle.xb_measured.proofs.laws.doubts_are_as_worked.Goals as goal
 
 pub returns : goal.returns
-unfolding doubts_after
+unfolding doubts_after meaning_of
 returns c = record {
   of_steady = refl;
   of_close = refl;
