@@ -1,5 +1,5 @@
 // The windows of a key that see no pair.
-ghost use Rattle.std.specs.Prelude.{◌≡◌, ◌≤◌, length};
+ghost use Rattle.std.specs.Prelude.{◌≡◌, ◌≤◌, false, length};
 ghost use Rattle.xb_measured.specs.Blanks.{blank_by, blank_of, blanks_after, place_of};
 
 use xb_ear::{Heard as HeardKey, Receiver as Ear, Sight, TAIL_WINDOWS};
