@@ -36,9 +36,17 @@ impl<'a> Work<'a> for JoinRequest<'a> {
     }
 
     fn run<F: Files, R: Read, W: Write, E: Write>(self, given: Given<'_, 'a, F, R, W, E>) -> u8 {
-        match join(given.alloc, given.files, &self, given.out) {
+        let Given {
+            out,
+            err,
+            alloc,
+            program,
+            files,
+            ..
+        } = given;
+        match join(alloc, files, &self, out) {
             Ok(()) => DONE,
-            Err(fault) => tell_fault(given.alloc, given.err, given.program.name, fault),
+            Err(fault) => tell_fault(alloc, err, program.name, fault),
         }
     }
 }
