@@ -4,10 +4,9 @@ use Rattle.std.specs.Prelude.{nat_le, nat_lt}
 use Rattle.std.proofs.lemmas.Bool.{leb-true, lt-leb}
 use Rattle.std.proofs.lemmas.Int.{ints}
 use Rattle.xb_model.specs.declared.key.Tone.{Tone as Pair}
-use Rattle.xb_signal.specs.declared.key_sample.Starts.{Starts}
 use Rattle.xb_signal.specs.declared.setting.Setting.{Setting}
 use Rattle.xb_signal.specs.declared.shape.Shape.{Shape}
-use Rattle.xb_signal.specs.Shapes.{drawn, is_in_hole, keyed_sample, late_sample, starts_of, tuned, wave_from}
+use Rattle.xb_signal.specs.Shapes.{is_in_hole, keyed_sample, late_sample, starts_of, tuned, wave_from}
 use Rattle.xb_signal.specs.Waves.{scaled, wave_at, wave_sample}
 use Rattle.xb_tone.specs.ShapeLaws.{HolesAreSilent, IsUnbroken, LateTonesWait, ShapesAreSounded, TunesToTheNearest, key_sample}
 
@@ -89,17 +88,12 @@ late-some late place hz n m start is =
     ∙ ap (λ (p : ℕ). wave_from p hz m) start
     ∙ ap (λ (k : ℕ). wave_at (k % 8000)) from
 
-abbrev starts : ℕ → ℕ → Starts
-starts low high = record { low = low; high = high }
-
-abbrev starts_by : Bool → ℕ → Starts
-starts_by b state = cond b (starts (drawn state 1) (drawn state 2)) (starts 0 0)
-
+-- a tone that begins at no place that is drawn begins at 0
 start-low : (shape : Shape) (state : ℕ) → shape.is_drawn ≡ false → (starts_of shape state).low ≡ 0
-start-low shape state is = ap (λ (b : Bool). (starts_by b state).low) is
+start-low shape state is = ap (λ (b : Bool). (starts_of (record shape { is_drawn = b }) state).low) is
 
 start-high : (shape : Shape) (state : ℕ) → shape.is_drawn ≡ false → (starts_of shape state).high ≡ 0
-start-high shape state is = ap (λ (b : Bool). (starts_by b state).high) is
+start-high shape state is = ap (λ (b : Bool). (starts_of (record shape { is_drawn = b }) state).high) is
 
 -- both tones, where it is known what each gives
 added : (low high : ℕ) (x y a b : ℤ) → x ≡ a → y ≡ b → scaled low x +ℤ scaled high y ≡ scaled low a +ℤ scaled high b
