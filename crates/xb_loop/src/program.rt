@@ -203,9 +203,8 @@ impl<'a> Work<'a> for Asked<'a> {
             files,
         } = given;
         if self.list {
-            answer_wires(alloc, &self.request, program, input, out, err)
-        } else {
-            answer_rows(alloc, files, self.request, program, input, out, err)
+            return answer_wires(alloc, &self.request, program, input, out, err);
         }
+        answer_rows(alloc, files, self.request, program, input, out, err)
     }
 }
