@@ -141,9 +141,9 @@ impl Follow<Common> for Contact {
         self.tally = self.tally.take(Hold { level, ticks });
         let piece = self.listener.take_until(level, until);
         let before = self.ringer.is_answering();
-        write_passed(text, line, &mut self.ringer, &mut self.seizer, piece)?;
+        let written = write_passed(text, line, &mut self.ringer, &mut self.seizer, piece);
         self.answers = answers_with(self.answers, before, self.ringer.is_answering());
-        Ok(())
+        written
     }
 
     // A level that it has already is one after an edge that was lost, where each edge says one.

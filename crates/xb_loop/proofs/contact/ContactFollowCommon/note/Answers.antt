@@ -17,7 +17,7 @@ returns c =
     ∙ ap (λ text. text ++ second)
     (c.in_ok-note_bounces.ensures
     ∙ ap (λ bounces. old ++ bounces_noted c.self.inside.common.said c.args.scale c.args.line bounces) c.bounces.ensures))
-    ∙ append_assoc (old ++ first) second third
-    ∙ append_assoc old first (second ++ third)
+    ∙ ap (λ text. text ++ third) (append_assoc old first second)
+    ∙ append_assoc old (first ++ second) third
     ∙ ap (λ v. old ++ note_of c.args.scale c.args.line v) c.self.view_is)
     c.note_answers.ensures
