@@ -156,9 +156,9 @@ impl<'a> Work<'a> for Asked<'a> {
             program,
             ..
         } = given;
-        match print(alloc, self.request, input, out) {
-            Ok(()) => DONE,
-            Err(fault) => tell_fault(alloc, err, program.name, fault),
+        if let Err(fault) = print(alloc, self.request, input, out) {
+            return tell_fault(alloc, err, program.name, fault);
         }
+        DONE
     }
 }
