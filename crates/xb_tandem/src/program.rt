@@ -78,9 +78,10 @@ impl<'a> Work<'a> for Asked<'a> {
             program,
             files,
         } = given;
-        match relay(alloc, files, self.table, self.request, input, out) {
-            Ok(left) => tell_note(alloc, err, program, self.request.form, left),
-            Err(fault) => tell_fault(alloc, err, program.name, fault),
-        }
+        let left = match relay(alloc, files, self.table, self.request, input, out) {
+            Ok(left) => left,
+            Err(fault) => return tell_fault(alloc, err, program.name, fault),
+        };
+        tell_note(alloc, err, program, self.request.form, left)
     }
 }
