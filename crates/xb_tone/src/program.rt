@@ -33,9 +33,9 @@ impl<'a> Work<'a> for Asked<'a> {
             program,
             ..
         } = given;
-        match play_asked(alloc, self, input, out, err) {
-            Ok(()) => DONE,
-            Err(fault) => tell_fault(alloc, err, program.name, fault),
+        if let Err(fault) = play_asked(alloc, self, input, out, err) {
+            return tell_fault(alloc, err, program.name, fault);
         }
+        DONE
     }
 }
