@@ -60,9 +60,9 @@ impl<'a> Work<'a> for Request<'a> {
             program,
             ..
         } = given;
-        match check_named(alloc, self, input, out) {
-            Ok(()) => DONE,
-            Err(fault) => tell_fault(alloc, err, program.name, fault),
+        if let Err(fault) = check_named(alloc, self, input, out) {
+            return tell_fault(alloc, err, program.name, fault);
         }
+        DONE
     }
 }
