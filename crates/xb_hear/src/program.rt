@@ -93,11 +93,11 @@ impl<'a, P: Work<'a>> Work<'a> for Asked<'a, P> {
 
     fn run<F: Files, R: Read, W: Write, E: Write>(self, given: Given<'_, 'a, F, R, W, E>) -> u8 {
         let Given {
+            alloc,
+            program,
             input,
             out,
             err,
-            alloc,
-            program,
             files,
         } = given;
         let Asked {

@@ -125,11 +125,11 @@ impl<'a> Work<'a> for Asked<'a> {
 
     fn run<F: Files, R: Read, W: Write, E: Write>(self, given: Given<'_, 'a, F, R, W, E>) -> u8 {
         let Given {
+            alloc,
+            program,
             input,
             out,
             err,
-            alloc,
-            program,
             ..
         } = given;
         answer(alloc, self.request, program, input, out, err)

@@ -37,11 +37,11 @@ impl<'a> Work<'a> for JoinRequest<'a> {
 
     fn run<F: Files, R: Read, W: Write, E: Write>(self, given: Given<'_, 'a, F, R, W, E>) -> u8 {
         let Given {
+            alloc,
+            files,
             out,
             err,
-            alloc,
             program,
-            files,
             ..
         } = given;
         match join(alloc, files, &self, out) {

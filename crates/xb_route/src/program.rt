@@ -23,12 +23,12 @@ impl<'a> Work<'a> for Request<'a> {
 
     fn run<F: Files, R: Read, W: Write, E: Write>(self, given: Given<'_, 'a, F, R, W, E>) -> u8 {
         let Given {
+            alloc,
+            files,
             input,
             out,
             err,
-            alloc,
             program,
-            files,
         } = given;
         match route(alloc, files, &self, input, out) {
             Ok(()) => DONE,

@@ -62,12 +62,12 @@ impl<'a> Work<'a> for Asked<'a> {
     #[tactic(auto, using(crate::proofs::Formed::formed))]
     fn run<F: Files, R: Read, W: Write, E: Write>(self, given: Given<'_, 'a, F, R, W, E>) -> u8 {
         let Given {
-            input,
-            out,
-            err,
             alloc,
             program,
             files,
+            input,
+            out,
+            err,
         } = given;
         let request = Request {
             written: self.written,

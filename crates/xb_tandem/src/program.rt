@@ -71,12 +71,12 @@ impl<'a> Work<'a> for Asked<'a> {
 
     fn run<F: Files, R: Read, W: Write, E: Write>(self, given: Given<'_, 'a, F, R, W, E>) -> u8 {
         let Given {
+            alloc,
+            files,
             input,
             out,
             err,
-            alloc,
             program,
-            files,
         } = given;
         let left = match relay(alloc, files, self.table, self.request, input, out) {
             Ok(left) => left,

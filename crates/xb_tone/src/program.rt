@@ -26,10 +26,10 @@ impl<'a> Work<'a> for Asked<'a> {
 
     fn run<F: Files, R: Read, W: Write, E: Write>(self, given: Given<'_, 'a, F, R, W, E>) -> u8 {
         let Given {
+            alloc,
             input,
             out,
             err,
-            alloc,
             program,
             ..
         } = given;
