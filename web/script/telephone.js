@@ -68,6 +68,9 @@ class Telephone {
   }
 
   hang(isUp) {
+    // a receiver that is lifted from its hook begins a call, however the last one ended
+    this.loop.tell();
+    if (isUp && this.isOnHook()) this.clear();
     this.isUp = isUp;
     this.turn = {};        // whoever was to dial a number here, dials it no more
     this.number = null;
