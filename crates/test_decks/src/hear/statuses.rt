@@ -3,10 +3,10 @@ use crate::hear::reports::{CALL, DECK, SHORT};
 use std::alloc::Global;
 use std::test::Fail;
 use test_kit::{
-    Fault, Folder, Program, Refusal, Streams, attended, called, check_faults, check_reads,
-    check_refusals, check_writes,
+    Fault, Folder, Program, Refusal, Streams, attended, check_faults, check_reads, check_refusals,
+    check_writes,
 };
-use xb_command::attend;
+use xb_command::{Call, attend};
 use xb_hear::{Asked, PROGRAM};
 use xb_loop::Asked as Rows;
 
@@ -21,7 +21,12 @@ impl Program for Mfhear {
 
     fn attend(&self, alloc: Global, words: &[String], streams: Streams<'_, '_>) -> u8 {
         let Streams { reader, out, err } = streams;
-        let call = called(&PROGRAM, words);
+        let call = Call {
+            program: &PROGRAM,
+            words,
+            is_typed: false,
+            is_shown: false,
+        };
         attend::<Asked<'_, Rows<'_>>, _, _, _, _>(alloc, &call, &FOLDER, reader, out, err)
     }
 }
