@@ -1,20 +1,25 @@
 """Lamps for the lines of an office: what each does, from the events of mflive as they come.
 
 usage: mflive --events DECK | lamps.py
-       mflive --events DECK | lamps.py --gpio CHIP LINE=PIN,PIN,PIN,PIN,PIN...
+       mflive --events DECK | lamps.py --gpio CHIP LAMPS...
 
 The first shows a row for each line that was seized: five lamps, of which one is lit (on hook, seized, dialling,
 complete, refused), its digits as two out of five, and what was keyed last, or why a call was refused. At the end of the
 events, or at ctrl-C, the rows stay.
 
-With --gpio it lights lamps on five pins of a line instead, by libgpiod 1 or 2 (pins.py), until the events end. Where
-CHIP is `log` nothing is lit: standard output gets a row for each change, its time in seconds and the level of each pin.
+With --gpio it lights lamps on pins instead, by libgpiod 1 or 2 (pins.py), until the events end. LAMPS are one or more of
 
-    mflive --events DECK | lamps.py --gpio gpiochip0 7=17,27,22,23,24
+    7=17,27,22,23,24          the five lamps of line 7
+    digit:7=5,6,13,19,26      the elements 0, 1, 2, 4 and 7 of its last digit, until it hangs up
+    trunk:17=12               trunk group 17, while a line has a call there
+
+Where CHIP is `log` nothing is lit: standard output gets a row for each change, its time in seconds and the level of each
+pin, in the order in which they are named.
 """
 import json
 import os
 import sys
+from collections import defaultdict
 
 try:
     import curses
@@ -38,7 +43,7 @@ class Line:
     """What is known of a line."""
 
     def __init__(self):
-        self.state, self.dialled, self.last = "ON HOOK", "", ""
+        self.state, self.dialled, self.last, self.trunk = "ON HOOK", "", "", None
 
     def take(self, told: dict) -> None:
         """Takes an event, or an entry."""
@@ -51,7 +56,7 @@ class Line:
             if self.state == "SEIZED":
                 self.state = "DIALLING"
         elif told["event"] == "RELEASED":
-            self.state = "ON HOOK"
+            self.state, self.trunk = "ON HOOK", None
 
     def finish(self, told: dict) -> None:
         """Takes an entry. Who hangs up too early is on hook before the call is refused."""
@@ -61,19 +66,25 @@ class Line:
             self.last = f"{told['reason']} {told['heard']}"
         if self.state != "ON HOOK":
             self.state = "COMPLETE" if told["outcome"] == "KEYED" else "REFUSED"
+            self.trunk = told.get("trunk")
 
 
-def elements(digit: str) -> str:
-    """The two of five elements that operate for a digit, by their weights."""
+def elements(digit: str) -> list:
+    """Which of five elements operate for a digit, by their weights."""
     total = int(digit) or 11
     pair = next((a, b) for a in WEIGHTS for b in WEIGHTS if a < b and a + b == total)
-    return "".join(str(weight) if weight in pair else "." for weight in WEIGHTS)
+    return [int(weight in pair) for weight in WEIGHTS]
+
+
+def weights(digit: str) -> str:
+    """The weights of the elements that operate for a digit."""
+    return "".join(str(weight) if operates else "." for weight, operates in zip(WEIGHTS, elements(digit)))
 
 
 def row_text(number: int, line: Line) -> str:
     """A line as a row of the screen."""
     lamps = " ".join("*" if state == line.state else "." for state in STATES)
-    digits = " ".join(map(elements, line.dialled))
+    digits = " ".join(map(weights, line.dialled))
     return f"{number:04}  {lamps}  {line.state:8}  {digits:41}  {line.last}"
 
 
@@ -127,42 +138,64 @@ def events():
         raise LampsError("standard input is empty: mflive --events writes what is shown")
 
 
-def pins_of(words: list) -> dict:
-    """The five pins of each line."""
-    pins = {}
-    for word in words:
-        line, _, numbers = word.partition("=")
-        pins[int(line)] = [int(number) for number in numbers.split(",")]
-        if len(pins[int(line)]) != len(STATES):
-            raise ValueError(word)
-    return pins
+def state_levels(lines: dict, number: int) -> list:
+    """The levels of the lamps of a line: that of what it does is lit."""
+    return [int(state == lines[number].state) for state in STATES]
 
 
-def levels_of(lines: dict) -> list:
-    """The levels of the pins of lines: the lamp of what each does is lit, and no other of it."""
-    return [int(state == line.state) for line in lines.values() for state in STATES]
+def digit_levels(lines: dict, number: int) -> list:
+    """The levels of the elements of a line's last digit."""
+    line = lines[number]
+    is_shown = line.dialled and line.state != "ON HOOK"
+    return elements(line.dialled[-1]) if is_shown else [0] * len(WEIGHTS)
 
 
-def light(chip: str, pins: dict) -> None:
-    """Lights the lamps of the lines that have pins."""
-    lines = {number: Line() for number in pins}
-    lamps = open_pins(chip, [pin for five in pins.values() for pin in five])
+def trunk_levels(lines: dict, number: int) -> list:
+    """The level of the lamp of a trunk group."""
+    return [int(any(line.trunk == number for line in lines.values()))]
+
+
+# What lamps show, by the word before the number of a line or of a trunk group, and how many these are.
+SHOWN = {"": (state_levels, 5), "digit": (digit_levels, 5), "trunk": (trunk_levels, 1)}
+
+
+def lamps_of(word: str) -> tuple:
+    """What says the levels of the lamps that a word names, the number that it is asked for, and their pins."""
+    what, _, numbers = word.partition("=")
+    kind, _, number = what.rpartition(":")
+    pins = [int(pin) for pin in numbers.split(",")]
+    levels, count = SHOWN.get(kind, (None, 0))
+    if len(pins) != count:
+        raise ValueError(word)
+    return levels, int(number), pins
+
+
+def light(chip: str, asked: list) -> None:
+    """Lights the lamps that are asked for."""
+    lines = defaultdict(Line)
+
+    def levels_now() -> list:
+        return [level for levels, number, _ in asked for level in levels(lines, number)]
+
+    shown = levels_now()
+    pins = open_pins(chip, [pin for _, _, numbers in asked for pin in numbers])
     try:
-        lamps.set(levels_of(lines))
+        pins.set(shown)
         for told in events():
-            if told["line"] in pins:
-                lines[told["line"]].take(told)
-                lamps.set(levels_of(lines))
+            lines[told["line"]].take(told)
+            if levels_now() != shown:
+                shown = levels_now()
+                pins.set(shown)
     finally:
-        lamps.close()
+        pins.close()
 
 
 def light_words(words: list) -> None:
     """Lights the lamps that the words after --gpio ask for."""
-    chip, *lines = words
-    if not lines:
+    chip, *asked = words
+    if not asked:
         raise ValueError("--gpio")
-    light(chip, pins_of(lines))
+    light(chip, [lamps_of(word) for word in asked])
 
 
 def show_rows() -> None:
@@ -185,7 +218,9 @@ def main(words: list) -> int:
     """Does what the words ask."""
     status = 0
     try:
-        if words[:1] == ["--gpio"]:
+        if words in (["--help"], ["-h"]):
+            print(__doc__)
+        elif words[:1] == ["--gpio"]:
             light_words(words[1:])
         elif words or sys.stdin.isatty():
             raise ValueError(words)

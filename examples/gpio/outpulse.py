@@ -7,6 +7,7 @@ at the end how late the edges were. The status is 1 where a call was given up, o
 import argparse
 import gc
 import re
+import signal
 import subprocess
 import sys
 import time
@@ -25,7 +26,7 @@ RELEASE_MS = 300
 SPIN_NS = MS // 2
 # An edge that is later may spoil its pulse.
 MOST_LATE_MS = 5
-INTERRUPTED = 130
+INTERRUPTED, TERMINATED = 130, 143
 
 
 class RowsError(ValueError):
@@ -49,6 +50,24 @@ def rows_of(stream, named):
             yield int(row[2] == "M"), int(row[3])
         elif named is None:
             raise RowsError(f"text line {number} is of another line than those before: --line says which is played")
+
+
+def runs_of(rows):
+    """The level and the ms of each run of rows of one level, with the row after it. A break that hangs up comes as soon as
+    it does, and so does what it has more."""
+    level, held, hangs_up = 0, 0, True
+    for next_level, ms in rows:
+        if next_level != level:
+            if held:
+                yield level, held
+            level, held, hangs_up = next_level, 0, False
+        held += ms
+        hangs_up = hangs_up or not level and held >= RELEASE_MS
+        if hangs_up:
+            yield level, held
+            held = 0
+    if held:
+        yield level, held
 
 
 class Player:
@@ -135,6 +154,7 @@ class Trunk:
     def seize(self) -> bool:
         """Seizes the trunk, and waits for its start signal. Where it is False the call is given up."""
         player = self._player
+        player.wait()
         if self._has_lead and not self._is_idle():
             player.tell("given up: the far office is off hook")
             return False
@@ -170,18 +190,18 @@ class Trunk:
 
 def dial(trunk: Trunk, player: Player, rows) -> int:
     """Plays rows, and returns how many calls were given up. A call begins with the first make on hook, and ends with a break
-    that hangs up, or with the rows. Where a start signal is waited for, that takes the place of the make."""
+    that hangs up, or with the rows. Where a start signal is waited for, that takes the place of the make. How a run is
+    split into rows changes nothing."""
     is_called = is_seizing = False
     given_up = 0
     is_on_hook = True
-    for level, ms in rows:
-        is_release = not level and ms >= RELEASE_MS
+    for level, ms in runs_of(rows):
         if level and is_on_hook:
             is_on_hook, is_called = False, trunk.seize()
             given_up += not is_called
             is_seizing = trunk.start is not None
         is_seizing = is_seizing and bool(level)
-        if is_release:
+        if not level and (is_on_hook or ms >= RELEASE_MS):
             if is_called:
                 trunk.hold()
                 trunk.release()
@@ -257,6 +277,7 @@ def play(options) -> int:
 def main(words: list) -> int:
     """Does what the words ask."""
     options = options_of(words)
+    signal.signal(signal.SIGTERM, lambda *_: sys.exit(TERMINATED))  # not before the pin is released
     gc.disable()  # it stops a program for some tenths of a millisecond
     try:
         return play(options)

@@ -11,7 +11,6 @@ The lead is an input with a pull-up. Times are nanoseconds of the monotonic cloc
 level. The time of an edge is the kernel's; of libgpiod 1 on kernels before 5.7 it is of another clock, so take only the
 difference of two. A level of 1 is that of a pin that is active: high, or low where the words say so.
 """
-import sys
 import time
 
 WHO = "mfbank"
@@ -163,8 +162,3 @@ def open_pins(chip: str, outputs: list, lead=None, is_low: bool = False, is_lead
         raise PinsError("Python has no module gpiod: apt-get install python3-libgpiod, or the chip `log`") from None
     except (OSError, ValueError) as fault:
         raise PinsError(f"{chip}: {fault}") from None
-
-
-def say(who: str, text: str) -> None:
-    """Tells a line on standard error."""
-    print(f"{who}: {text}", file=sys.stderr, flush=True)
