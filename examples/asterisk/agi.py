@@ -1,15 +1,18 @@
 #!/usr/bin/env python3
 """An AGI script of Asterisk: hears the digits of a call, and leaves in MF what a No. 5 Crossbar office keys for it.
 
-usage: AGI(agi.py,TABLE,LIBRARY)   TABLE is a file with a route table
+usage: AGI(agi.py,TABLE[,LIBRARY])   TABLE is a file with a route table; LIBRARY is the path of libmfchain.so.0
 
 MF is empty where the office refuses the call; else * stands for KP and # for ST in it, as SendMF takes them. A caller's
-# says that no more comes, as 20 seconds without a digit do. What goes wrong is one line on standard error, with status
-1, and MF is then left as it was.
+# says that no more comes, as the table's `timeout` without a digit does. What goes wrong is one line on standard error,
+with status 1, and MF is then left as it was.
 """
 import re
 import sys
+from pathlib import Path
 
+sys.dont_write_bytecode = True  # no folder beside what is installed
+sys.path.append(str(Path(__file__).resolve().parents[1] / "python"))
 from mfchain import Office, TableError
 
 KEYS = {"TRUNK": "", "KP": "*", "ST": "#"}
@@ -38,7 +41,7 @@ def marks_of_call(office: Office) -> list:
     """What the office makes of one call."""
     marks = office.seize(0)
     while not marks:
-        key = ask("WAIT FOR DIGIT 20000")
+        key = ask(f"WAIT FOR DIGIT {office.timeout}")
         if key < 0:
             marks = office.release(0)
         elif key in (TIMED_OUT, NO_MORE):
@@ -50,10 +53,10 @@ def marks_of_call(office: Office) -> list:
     return marks
 
 
-def serve(table: str, library: str) -> None:
+def serve(table: str, *library: str) -> None:
     """Serves one call by a file with a route table."""
     with open(table, encoding="utf-8") as text:
-        office = Office(text.read(), library)
+        office = Office(text.read(), *library)
     while sys.stdin.readline().strip():
         pass  # what Asterisk says of the call before it listens
     marks = marks_of_call(office)
@@ -61,8 +64,8 @@ def serve(table: str, library: str) -> None:
     ask('SET VARIABLE MF "' + "".join(KEYS.get(it.kind, str(it.value)) for it in marks if keyed) + '"')
 
 
-if len(sys.argv) != 3:
-    sys.exit("usage: AGI(agi.py,TABLE,LIBRARY)")
+if not 2 <= len(sys.argv) <= 3:
+    sys.exit("usage: AGI(agi.py,TABLE[,LIBRARY])")
 try:
     serve(*sys.argv[1:])
 except (OSError, UnicodeDecodeError, TableError, Unanswered) as fault:
