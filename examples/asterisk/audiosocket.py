@@ -22,7 +22,7 @@ import uuid
 
 HANG_UP, ID, DTMF, SOUND, ERROR = 0x00, 0x01, 0x03, 0x10, 0xFF
 PROGRAMS = ("mfrx", "mftandem", "mftone")
-# What a leg says waits for the other by so many bytes at most, 100 ms, and is lost while keys are sounded there.
+# What a leg says waits for the other one by so many bytes at most, 100 ms.
 MOST_WAITING = 1600
 # Reorder for 5 seconds, as the precise tone plan has it.
 REORDER = "480+620:250 silence:250 " * 10
@@ -65,11 +65,11 @@ async def next_frame(reader) -> tuple:
 
 
 class Leg:
-    """A connection of Asterisk: the ear that hears it, the sound that it is to get, and the leg it speaks with."""
+    """A connection of Asterisk: the ear that hears it, the keys or tones that it is to get, and the leg it speaks with."""
 
     def __init__(self, writer):
         self.name, self.ear, self.sound, self.other = "a leg", None, b"", None
-        self._writer, self._is_hung_up = writer, False
+        self._writer, self._is_hung_up, self._said = writer, False, b""
 
     def send(self, kind: int, payload: bytes = b"") -> None:
         """Sends a frame."""
@@ -80,15 +80,22 @@ class Leg:
         self._is_hung_up = True
         self.send(HANG_UP)
 
+    def _next(self, count: int) -> bytes:
+        """The next bytes that it gets: of its sound, and then of what the other leg says."""
+        if self.sound:
+            piece, self.sound = self.sound[:count], self.sound[count:]
+        else:
+            piece, self._said = self._said[:count], self._said[count:]
+        return piece.ljust(count, b"\0")
+
     async def take(self, sound: bytes) -> None:
         """Takes the sound of a frame, and answers it."""
         if self.ear:
             self.ear.stdin.write(sound)
             await self.ear.stdin.drain()
-        elif self.other and len(self.other.sound) + len(sound) <= MOST_WAITING:
-            self.other.sound += sound
-        answer, self.sound = self.sound[: len(sound)], self.sound[len(sound) :]
-        self.send(SOUND, answer.ljust(len(sound), b"\0"))
+        elif self.other and not self.other.sound:
+            self.other._said = (self.other._said + sound)[-MOST_WAITING:]
+        self.send(SOUND, self._next(len(sound)))
         await self._writer.drain()
 
     async def follow(self, reader) -> None:
