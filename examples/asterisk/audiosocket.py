@@ -3,11 +3,11 @@
 
 usage: audiosocket.py PORT TABLE [WORDS...]      listens at 127.0.0.1; WORDS go to mftandem, after TABLE
 
-The register of the office (mfrx and mftandem, which have to be on PATH) hears each leg that comes with an id of its own.
-Standard output gets an object for each call that it tells, as `mftandem --json` writes it, with the `id` of the leg. One
-that is keyed has a `next` too, the id with which the other leg is to come: its keys are sounded there (mftone), and then
-the two legs hear each other. A leg whose call is refused hears reorder. Of a doubtful number the object that `mfrx
---json` writes comes before that of its call.
+The register of the office (mfrx and mftandem, which have to be on PATH) hears each leg that comes with an id of its
+own. Standard output gets an object for each call that it tells, as `mftandem --json` writes it, with the `id` of the
+leg. One that is keyed, and whose leg is there still, has a `next` too, the id with which the other leg is to come:
+its keys are sounded there (mftone), and then the two legs hear each other. A leg whose call is refused hears reorder.
+Of a doubtful number the object that `mfrx --json` writes comes before that of its call.
 
 Each frame of sound is answered by one of its length, so Asterisk keeps the time. A leg that ends hangs up the other.
 """
@@ -68,8 +68,8 @@ class Leg:
     """A connection of Asterisk: the ear that hears it, the keys or tones that it is to get, and the leg it speaks with."""
 
     def __init__(self, writer):
-        self.name, self.ear, self.sound, self.other = "a leg", None, b"", None
-        self._writer, self._is_hung_up, self._said = writer, False, b""
+        self.name, self.ear, self.sound, self.other, self.is_over = "a leg", None, b"", None, False
+        self._writer, self._said = writer, b""
 
     def send(self, kind: int, payload: bytes = b"") -> None:
         """Sends a frame."""
@@ -77,7 +77,7 @@ class Leg:
 
     def hang_up(self) -> None:
         """Hangs up."""
-        self._is_hung_up = True
+        self.is_over = True
         self.send(HANG_UP)
 
     def _next(self, count: int) -> bytes:
@@ -102,7 +102,7 @@ class Leg:
         """Takes the frames of a leg until it is hung up."""
         while True:
             kind, payload = await next_frame(reader)
-            if kind == HANG_UP or self._is_hung_up:
+            if kind == HANG_UP or self.is_over:
                 return
             if kind == SOUND:
                 await self.take(payload)
@@ -137,7 +137,7 @@ class Office:
         """Tells the calls of a leg, of which one that is keyed is the last."""
         async for text in tandem.stdout:
             told = json.loads(text)
-            if told.get("outcome") == "KEYED":
+            if told.get("outcome") == "KEYED" and not leg.is_over:
                 await self._key_on(leg, told)
             elif told.get("outcome") == "REFUSED":
                 leg.sound = await sound_of(REORDER, "--level=-24")
@@ -164,6 +164,7 @@ class Office:
         try:
             await leg.follow(reader)
         finally:
+            leg.is_over = True
             ear.stdin.close()
             await asyncio.gather(passing, telling)
 
