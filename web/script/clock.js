@@ -16,9 +16,13 @@ class Clock {
 
   // Does something as at a moment that has passed.
   at(moment, what) {
+    const { stands } = this;
     this.stands = moment;
-    try { what(); } finally { this.stands = null; }
+    try { what(); } finally { this.stands = stands; }
   }
+
+  // Does something as at one moment: a page may stand still between two looks at the clock.
+  atOnce(what) { this.at(this.now(), what); }
 
   setPace(pace) {
     this.before = this.now();

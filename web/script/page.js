@@ -296,7 +296,11 @@ class Office {
 
   // Each thing that is due is done as at its own moment, with all that the telephones did before it.
   move() {
-    const now = this.clock.now();
+    this.clock.atOnce(() => this.moveUntil(this.clock.now()));
+    if (this.resting && !this.standsStill()) this.wake();
+  }
+
+  moveUntil(now) {
     for (let next = this.nextDue(now); next; next = this.nextDue(now)) {
       this.coming.splice(this.coming.indexOf(next), 1);
       this.clock.at(next.at, () => {
@@ -305,7 +309,6 @@ class Office {
       });
     }
     this.moveTelephones();
-    if (this.resting && !this.standsStill()) this.wake();
   }
 
   moveTelephones() { for (const telephone of this.telephones) guarded(() => telephone.move()); }

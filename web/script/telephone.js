@@ -67,8 +67,11 @@ class Telephone {
     this.hang(isUp);
   }
 
-  hang(isUp) {
+  hang(isUp) { this.clock.atOnce(() => this.hangNow(isUp)); }
+
+  hangNow(isUp) {
     // a receiver that is lifted from its hook begins a call, however the last one ended
+    this.dial.move();
     this.loop.tell();
     if (isUp && this.isOnHook()) this.clear();
     this.isUp = isUp;
@@ -107,7 +110,10 @@ class Telephone {
   turned() {
     this.office.touched();
     this.isShown = false;
-    if (this.isInCall()) return;
+    if (!this.isInCall()) this.clock.atOnce(() => this.beginByHand());
+  }
+
+  beginByHand() {
     const pause = this.isOnHook() ? 0 : HANGS_MS;
     if (this.isUp) this.hang(false);
     this.dial.heldUntil = this.clock.now() + pause + LISTENS_MS;
