@@ -12,6 +12,7 @@ const STOP_ANGLE = 128;
 const STEP_ANGLE = 30;
 const HOLE_DISTANCE = 112;
 const HOLE_RADIUS = 24;
+const DIAL_WIDTH = 320;
 
 // The times of a contact for each pulse, in ms; `more` is how many pulses it sends too many.
 const DIAL_KINDS = {
@@ -41,6 +42,7 @@ class Dial {
     this.angle = 0;
     this.asked = [];       // digits that keys or taps asked for, and that are still to be dialled, each with its moment
     this.drag = null;      // a finger or a mouse in a hole
+    this.tap = null;       // one that is put on a figure while the wheel turns by itself
     this.winding = null;   // the wheel goes to the stop by itself
     this.running = null;   // it runs back
     this.restsUntil = 0;
@@ -65,8 +67,13 @@ class Dial {
   }
 
   press(event) {
+    if (this.drag) return;
+    if (this.isBusy()) {
+      this.tap = { digit: this.figureAt(event), finger: event.pointerId };
+      return;
+    }
     const digit = event.target.dataset.digit;
-    if (!digit || this.isBusy()) return;
+    if (!digit) return;
     event.preventDefault();
     this.top.setPointerCapture(event.pointerId);
     this.drag = { digit, finger: event.pointerId, last: this.angleOf(event), moved: 0 };
@@ -84,12 +91,30 @@ class Dial {
   }
 
   release(event) {
+    if (event.pointerId === this.tap?.finger) this.releaseTap(event);
     if (event.pointerId !== this.drag?.finger) return;
     const { drag } = this;
     this.drag = null;
     if (!isTap(drag)) { this.letGo(Math.max(this.clock.now(), this.heldUntil)); return; }
     this.angle = 0;
     this.tapped(drag.digit);
+  }
+
+  // The holes have turned away from the figures, and who taps reads these.
+  releaseTap(event) {
+    const { digit } = this.tap;
+    this.tap = null;
+    if (event.type === 'pointerup' && digit && digit === this.figureAt(event)) this.tapped(digit);
+  }
+
+  // The digit that is written where a finger or a mouse is.
+  figureAt({ clientX, clientY }) {
+    const { left, top, width } = this.top.getBoundingClientRect();
+    const [x, y] = [clientX - left, clientY - top].map((at) => (at / width - 0.5) * DIAL_WIDTH);
+    return DIAL_DIGITS.find((digit) => {
+      const figure = pointAt(STOP_ANGLE - turnOf(digit), HOLE_DISTANCE);
+      return Math.hypot(x - figure.x, y - figure.y) <= HOLE_RADIUS;
+    });
   }
 
   // ---- by itself

@@ -1,9 +1,11 @@
 // One telephone of the office: its hook and dial, its loop, and the register that listens to it.
 
-// How long a hand hangs up between two calls, and waits for the register; how long a shown call is seen after its end.
+// How long a hand hangs up between two calls, and waits for the register; how long a shown call is seen after its end;
+// and after how long a whole number has its entry at the latest.
 const HANGS_MS = 450;
 const LISTENS_MS = 250;
 const SHOWN_MS = 2000;
+const WHOLE_MS = 1000;
 
 class Telephone {
   constructor(line, module, clock, office) {
@@ -34,6 +36,7 @@ class Telephone {
     this.top.addEventListener('pointerdown', () => office.choose(this));
     this.isUp = false;
     this.number = null;    // what is to be dialled once the receiver is up
+    this.next = [];        // what a visitor asks for meanwhile of a shown call, and that follows it
     this.isShown = false;  // its call is a shown one, which hangs up by itself
     this.toldAt = 0;
     this.isStill = false;  // its trace is drawn, and does not move
@@ -77,6 +80,7 @@ class Telephone {
     this.isUp = isUp;
     this.turn = {};        // whoever was to dial a number here, dials it no more
     this.number = null;
+    this.next = [];
     this.isShown = false;
     this.loop.set('hook', isUp, this.clock.now());
     if (!isUp) {
@@ -97,20 +101,38 @@ class Telephone {
   // A register listens here, or will: what is dialled now goes on with a call.
   isInCall() { return this.number !== null || (this.isUp && !this.outcome); }
 
-  // A digit by a key or a tap. Where no call is under way it begins one.
+  // A digit by a key or a tap. Where no call is under way it begins one; a shown call is not spoiled by it.
   ask(digit) {
     this.office.touched();
+    if (this.next.length || (this.isShown && this.isInCall())) {
+      this.next.push(digit);
+      if (this.next.length === 1) this.follow();
+      return;
+    }
     this.isShown = false;
     if (this.number) this.number.push(digit);
     else if (this.isInCall()) this.dial.ask(digit);
     else this.dialNumber(digit);
   }
 
-  // So does a dial that a hand turns: it is held until the register listens.
+  // What was asked for during a shown call: it begins another one, or goes on with a number that was not whole.
+  follow() {
+    const { next } = this;
+    const isDialled = !this.isMoved() && this.clock.now() > this.dial.restsUntil + WHOLE_MS;
+    if (!this.isInCall()) {
+      this.dialNumber(next);
+    } else if (isDialled) {
+      Object.assign(this, { next: [], isShown: false });
+      next.forEach((digit) => this.dial.ask(digit));
+    } else {
+      this.inTurn(100, () => this.follow());
+    }
+  }
+
+  // So does a dial that a hand turns: it is held until the register listens. A shown call ends there.
   turned() {
     this.office.touched();
-    this.isShown = false;
-    if (!this.isInCall()) this.clock.atOnce(() => this.beginByHand());
+    if (!this.isInCall() || this.isShown) this.clock.atOnce(() => this.beginByHand());
   }
 
   beginByHand() {
@@ -142,9 +164,10 @@ class Telephone {
     const digits = [...number];
     this.number = digits;
     this.inTurn(pause, () => this.onceAtRest(() => {
-      const { isShown } = this;
+      const { isShown, next } = this;
       this.hang(true);
-      Object.assign(this, { number: digits, isShown });
+      Object.assign(this, { number: digits, isShown, next });
+      if (next.length) this.follow();
       this.inTurn(LISTENS_MS, () => {
         this.number = null;
         digits.forEach((digit) => this.dial.ask(digit));

@@ -1,5 +1,6 @@
-// The telephone is never dead: what is dialled after a call begins a new one, whatever ended that; a second finger does
-// nothing; a fault in a picture stops no dial; and where nothing moves no picture is asked for, in any state.
+// The telephone is never dead: what is dialled after a call, or during a shown one, begins a new one, whatever ended
+// that; taps on a dial that turns are dialled; a second finger does nothing; a fault in a picture stops no dial; and
+// where nothing moves no picture is asked for, in any state.
 'use strict';
 const { is } = require('./checks.js');
 const { sleep } = require('./browser.js');
@@ -57,6 +58,39 @@ async function tryShownCalls(it) {
   await it.click('[data-number="2345678"]');
   await it.untilEntries(3);
   is('and one that sounds again ends no later one', / KEYED 0017 /.test((await it.entries())[2]), true);
+}
+
+// ---- during a call
+
+// What is dialled while a shown call is under way spoils neither.
+async function tryMeanwhile(it) {
+  for (const [what, shown] of [['the opening call', () => it.visit('')],
+    ['a shown call', async () => { await it.visit('#quiet'); await it.click('[data-number="411"]'); }]]) {
+    await shown();
+    await it.dial('0');
+    await it.untilEntries(2).catch(() => {});
+    is(`a key during ${what} begins another one after it`, await kindsOf(it), [BY_INFORMATION, BY_OPERATOR]);
+  }
+  await it.visit('#dial=23');
+  await it.click('#demo');
+  await it.untilNumber('2');
+  await it.dial('45678');
+  await it.untilEntries(1);
+  is('a number of a link that is not whole goes on', / KEYED 0017 /.test((await it.entries())[0]), true);
+}
+
+// Who taps reads the figures, which stand still while the holes turn.
+async function tryTaps(it) {
+  await it.visit('#quiet');
+  const places = [];
+  for (const digit of '411') places.push(await it.middle(`[data-digit="${digit}"]`));
+  for (const [x, y] of places) {
+    await it.mouse('mousePressed', x, y);
+    await it.mouse('mouseReleased', x, y);
+    await sleep(300);
+  }
+  await it.untilEntries(1).catch(() => {});
+  is('taps on a dial that turns are dialled', await kindsOf(it), [BY_INFORMATION]);
 }
 
 // ---- two fingers
@@ -164,6 +198,8 @@ async function tryAlive(it) {
   await it.send('Emulation.setTouchEmulationEnabled', { enabled: true, maxTouchPoints: 5 });
   await tryAfter(it);
   await tryShownCalls(it);
+  await tryMeanwhile(it);
+  await tryTaps(it);
   await tryFingers(it);
   await it.send('Emulation.setTouchEmulationEnabled', { enabled: false });
   await tryFaults(it);
