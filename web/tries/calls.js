@@ -191,8 +191,10 @@ class CallTries {
   async byTables() {
     const { it, tape } = this;
     for (const [table, fault, place] of FAULTY_TABLES) {
+      const words = `Refused: ${fault}. The table before it stays in use.`;
       await it.write(table);
-      is(`a table: ${fault}`, await it.text('#fault'), `Refused: ${fault}. The table before it stays in use.`);
+      await it.until(`document.getElementById('fault').textContent === ${JSON.stringify(words)}`, 5000).catch(() => {});
+      is(`a table: ${fault}`, await it.text('#fault'), words);
       if (place) is('with its text line', await it.texts('#places p'), [place]);
       if (/repeats/.test(fault)) {
         await it.click('#places button');

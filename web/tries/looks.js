@@ -13,8 +13,7 @@ const TABBED = ['demo', 'explain', 'sound', 'row', 'pace', 'keys', 'Dial 1 on li
   'page'];
 
 async function tryNames(it) {
-  const { nodes } = await it.send('Accessibility.getFullAXTree');
-  const seen = nodes.filter((node) => !node.ignored);
+  const seen = (await it.tree()).filter((node) => !node.ignored);
   const nameless = (some) => some.filter((node) => !node.name?.value).map((node) => node.role.value);
   const controls = seen.filter((node) => CONTROLS.includes(node.role?.value));
   is(`all ${controls.length} controls have names`, nameless(controls), []);

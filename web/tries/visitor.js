@@ -64,6 +64,13 @@ class Visitor extends Browser {
 
   untilNumber(number) { return this.until(`document.querySelector('.number').textContent === '${number}'`); }
 
+  // What a screen reader has of the page. Of the tables' texts it is a line: the nodes of the others are more bytes
+  // than Node takes in one message.
+  async tree() {
+    await this.run('for (const it of document.querySelectorAll("textarea")) it.value = it.value.split("\\n")[0]');
+    return (await this.send('Accessibility.getFullAXTree')).nodes;
+  }
+
   // ---- what one does
 
   async dial(digits) { for (const digit of digits) await this.key(digit); }
