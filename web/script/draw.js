@@ -27,6 +27,9 @@ function guarded(what) {
   }
 }
 
+// How much larger the page's letters are than on a desk, as those of a museum's screen.
+const largerBy = () => parseFloat(getComputedStyle(document.documentElement).fontSize) / 16;
+
 const plural = (count, word) => `${count} ${word}${count === 1 ? '' : 's'}`;
 
 const lessMotion = matchMedia('(prefers-reduced-motion: reduce)');

@@ -6,6 +6,7 @@ const FREQUENCIES = [700, 900, 1100, 1300, 1500, 1700];
 const LANE_WEIGHTS = { 700: '0', 900: '1', 1100: '2', 1300: '4', 1500: '7', 1700: '' };
 const WIDEST_KEY = 92;
 const NARROWEST_PAIR = 72;
+const NOTHING_SENT = 'six of them, in Hz';
 
 const keysOf = (marks) => marks.filter((mark) => [Kind.DIGIT, Kind.KP, Kind.ST].includes(mark.kind));
 
@@ -49,7 +50,7 @@ class Sender {
     this.playing?.silence();
     if (this.playing) this.end();
     this.last = null;
-    this.status.textContent = '';
+    this.status.textContent = NOTHING_SENT;
     this.far.textContent = 'nothing';
     this.draw([]);
   }
@@ -145,7 +146,9 @@ class Sender {
 
   // Draws the lanes and the keys; returns what was drawn of each key.
   draw(keys) {
-    const [width, height] = [Math.max(280, this.top.clientWidth || 600), this.top.clientHeight || 180];
+    const { clientWidth, clientHeight } = this.top;
+    const larger = largerBy();
+    const [width, height] = [Math.max(280, (clientWidth || 600) / larger), (clientHeight || 180) / larger];
     this.top.setAttribute('viewBox', `0 0 ${width} ${height}`);
     this.top.textContent = '';
     this.top.setAttribute('aria-label', keys.length ? `Keys: ${keys.map(keyName).join(' ')}` : 'No keys are sent');

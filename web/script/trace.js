@@ -39,9 +39,10 @@ class Trace {
 
   draw(colours) {
     const { canvas } = this;
-    const ratio = devicePixelRatio || 1;
-    const [width, height] = [canvas.clientWidth, canvas.clientHeight];
-    if (width === 0) return;
+    if (canvas.clientWidth === 0) return;
+    const larger = largerBy();
+    const ratio = (devicePixelRatio || 1) * larger;
+    const [width, height] = [canvas.clientWidth / larger, canvas.clientHeight / larger];
     if (canvas.width !== Math.round(width * ratio) || canvas.height !== Math.round(height * ratio)) {
       canvas.width = Math.round(width * ratio);
       canvas.height = Math.round(height * ratio);

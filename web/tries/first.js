@@ -100,6 +100,10 @@ async function tryLacking(it) {
   await callGoesOn(it, 'a picture that fails loses no entry');
   const said = it.messages.splice(0).filter((text) => !/a picture that fails/.test(text));
   is('and says so in the console alone', said, []);
+  await it.visitWith('delete window.Worker;');
+  await sleep(1000);     // the example is read first
+  await it.drop('short.deck', '---\nline,state,ms\n7,M,600\n');
+  is('without workers a deck is read', await it.text('#page'), '0007 1 REFUSED ABANDONED 0\nKEYED 0 REFUSED 1\n');
   await it.visitWith('delete window.WebAssembly;', '!document.getElementById("lacking").hidden');
   const enabled = await it.run(`document.querySelectorAll('main button:enabled, main select:enabled').length`);
   is('without WebAssembly no control is offered', enabled, 0);
@@ -127,9 +131,10 @@ async function tryHidden(it) {
 // What stands on the first screen: the dial, the tones and the button; on a desk whatever a call reaches, too.
 const FIRST = ['#demo', '.dial', '#tones'];
 const REACHED = [...FIRST, '.hook', '#far', '.trace', '.relays', '#route'];
-const SCREENS = [[1280, 720, REACHED], [1280, 900, REACHED], [1920, 1080, REACHED], [1024, 768, FIRST],
-  [820, 1180, [...FIRST, '.hook', '#far']], [768, 1024, FIRST], [390, 844, [...FIRST, '.hook']],
-  [320, 568, ['#demo', '.dial']], [844, 390, FIRST]];
+const SCREENS = [[1280, 720, REACHED], [1280, 900, REACHED], [1920, 1080, REACHED],
+  [2560, 1440, REACHED], [1024, 768, FIRST], [820, 1180, [...FIRST, '.hook', '#far']], [768, 1024, FIRST],
+  [390, 844, [...FIRST, '.hook']], [360, 740, ['#demo', '.dial', '.hook']], [320, 568, ['#demo', '.dial']],
+  [844, 390, FIRST]];
 const LEAST_HOLE = 44;
 
 async function tryFirstScreen(it) {

@@ -40,7 +40,8 @@ async function tryExplained(it) {
 
 // Each stage that is explained is seen whole, beside the dial, and the words do not lie over them.
 async function tryExplainedScreens(it) {
-  for (const [width, height] of [[390, 844], [820, 1180], [1280, 720], [1280, 900], [1920, 1080]]) {
+  for (const [width, height] of [[390, 844], [844, 390], [820, 1180], [1024, 768], [1280, 720], [1280, 900],
+    [1920, 1080]]) {
     await it.look({ width, height });
     await it.visit('#quiet');
     await it.click('#explain');
