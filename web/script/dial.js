@@ -164,7 +164,7 @@ class Dial {
   wind(now) {
     const { digit, from, takes } = this.winding;
     const ends = from + takes;
-    this.angle = turnOf(digit) * Math.min(1, (now - from) / takes);
+    this.angle = turnOf(digit) * Math.max(0, Math.min(1, (now - from) / takes));
     if (now < ends) return false;
     this.winding = null;
     this.letGo(ends);
