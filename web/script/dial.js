@@ -79,10 +79,14 @@ class Dial {
     this.drag = { digit, finger: event.pointerId, last: this.angleOf(event), moved: 0 };
   }
 
-  // A second finger or a palm on the dial does nothing.
+  // A second finger or a palm on the dial does nothing. A page that is late is given several moves as one.
   turn(event) {
     if (event.pointerId !== this.drag?.finger) return;
-    const angle = this.angleOf(event);
+    const moves = event.getCoalescedEvents?.() ?? [];
+    for (const move of moves.length ? moves : [event]) this.turnTo(this.angleOf(move));
+  }
+
+  turnTo(angle) {
     const step = ((angle - this.drag.last + 540) % 360) - 180;
     this.drag.last = angle;
     if (isTap(this.drag) && !isTap({ moved: this.drag.moved + Math.abs(step) })) this.turned();
@@ -95,6 +99,8 @@ class Dial {
     if (event.pointerId !== this.drag?.finger) return;
     const { drag } = this;
     this.drag = null;
+    // what was asked for meanwhile begins now
+    this.restsUntil = Math.max(this.restsUntil, this.clock.now());
     if (!isTap(drag)) { this.letGo(Math.max(this.clock.now(), this.heldUntil)); return; }
     this.angle = 0;
     this.tapped(drag.digit);

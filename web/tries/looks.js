@@ -28,6 +28,9 @@ async function tryNames(it) {
 }
 
 async function tryKeysAlone(it) {
+  // the trunk's noise is chosen once a call has reached it
+  await it.dial('0');
+  await it.until('document.querySelector("#sending.reached")');
   await it.run('document.activeElement.blur(); scrollTo(0, 0)');
   const seen = new Set();
   for (let i = 0; i < 60; i++) {
