@@ -8,7 +8,7 @@ const { BY_OPERATOR } = require('./calls.js');
 
 const CONTROLS = ['button', 'link', 'textbox', 'combobox', 'radio', 'checkbox', 'progressbar', 'image', 'log', 'region',
   'Canvas', 'DisclosureTriangle'];
-const TABBED = ['demo', 'explain', 'sound', 'row', 'pace', 'keys', 'Dial 1 on line 7', 'Lift the receiver, line 7',
+const TABBED = ['demo', 'explain', 'sound', 'row', 'pace', 'keys', 'Dial 1 on line 7', 'Hang up, line 7',
   'noise', 'recording', 'microphone', 'heard', 'second-routes', 'second-roll', 'routes', 'file', 'example', 'roll',
   'page'];
 
