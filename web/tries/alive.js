@@ -112,7 +112,7 @@ async function tryFingers(it) {
   for (let turned = 10; turned <= 150; turned += 10) await touch('touchMove', finger(turned));
   await touch('touchStart', finger(150), palm);
   await touch('touchMove', finger(150), { ...palm, x: palm.x + 6 });
-  await touch('touchEnd', finger(150));
+  // a point that is no more named is lifted
   for (let turned = 160; turned <= 300; turned += 10) await touch('touchMove', finger(turned));
   await touch('touchEnd');
   await it.until('document.querySelector(".number").textContent !== ""');
