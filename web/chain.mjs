@@ -1,4 +1,4 @@
-// The dialling chain of a No. 5 Crossbar office, for programs in JavaScript: mfchain.d.ts has its calls, and
+// The dialling chain of a No. 5 Crossbar office, for programs in JavaScript: mfchain.d.mts has its calls, and
 // docs/EMBEDDING.md of mfbank what they do and what is proved of them. web/build makes this file: the modules of the page,
 // and the scripts of web/script that draw nothing.
 

@@ -2,22 +2,24 @@
 
 An `Office` takes what the loops of its lines do, and gives each mark the moment it is certain:
 
-    office = Office(table_text, "libmfchain.so.0")
+    office = Office(table_text)
     for mark in office.take(7, "M", 500):
         print(mark)
 
 Or it is told what was heard on a line, by `seize`, `digit`, `mutilated_digit`, `time_out` and `release`.
 
 Needs Python 3.8 and no package. The shared object is made by `make` in examples/c, as
-libmfchain.so, and by scripts/install.
+libmfchain.so, and by scripts/install, whose is found without its path.
 """
 import ctypes
 import threading
 from array import array
+from pathlib import Path
 from typing import NamedTuple
 
 __version__ = "0.5"
 
+LIBRARY = "libmfchain.so.0"
 LINES = 10000
 MOST_MARKS = 24
 MOST_ROUTES = 1000
@@ -162,14 +164,24 @@ def _byte_of(digit: int) -> int:
     return digit if _is_number(digit, 255) else 255
 
 
+def found() -> str:
+    """Where the library is: in `lib` beside the `share` that has this file, where both were installed, or else where the
+    system looks for one of this name."""
+    for folder in Path(__file__).resolve().parents:
+        library = folder.parent / "lib" / LIBRARY
+        if folder.name == "share" and library.is_file():
+            return str(library)
+    return LIBRARY
+
+
 class Office:
     """An office by a route table. It keeps what is known of each line, 24 bytes a line. Any threads may call it: it
     takes one row after the other, since the rows share what is given to C and got from it."""
 
-    def __init__(self, table, library: str = "libmfchain.so.0"):
-        """Opens an office by the route table of a TOML text, or of its bytes. Raises `TableError` where it is refused,
-        and `MemoryError` where memory ran out."""
-        self._library = ctypes.CDLL(library)
+    def __init__(self, table, library: str = ""):
+        """Opens an office by the route table of a TOML text, or of its bytes, with the library of that path, or the one
+        that is `found`. Raises `TableError` where the table is refused, and `MemoryError` where memory ran out."""
+        self._library = ctypes.CDLL(library or found())
         _declare(self._library)
         self._table = _Table()
         self._lines = (_Line * LINES)()
@@ -185,6 +197,11 @@ class Office:
             raise MemoryError
         if status:
             raise TableError(status, fault.value.decode())
+
+    @property
+    def timeout(self) -> int:
+        """After how many ms without a digit whoever tells digits has to call `time_out`, by the route table."""
+        return self._table.head[6]
 
     def take(self, line: int, state: str, ms: int) -> list:
         """Takes a row: what the loop of a line does (`M` make, `B` break, `C` the end of its record), and for

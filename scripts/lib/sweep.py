@@ -162,6 +162,20 @@ def heard_by(command):
     return heard
 
 
+def keyings_of(keys):
+    """The keys of each number: those from a KP to the next ST. What sounds in none is no number."""
+    keyings, begun = [], None
+    for key in keys:
+        if key == "KP":
+            begun = []
+        if begun is not None:
+            begun.append(key)
+            if key == "ST":
+                keyings.append(begun)
+                begun = None
+    return keyings
+
+
 def judge(folder, mfrx, hear, *command):
     receivers = {"mfrx": heard_by_mfrx(mfrx)}
     if hear:
@@ -181,8 +195,7 @@ def judge(folder, mfrx, hear, *command):
                 keys, is_doubtful = heard(path)
                 counts = row[1][name]
                 counts[0] += keys == it["keys"]
-                # Another number: it begins with a KP and ends with an ST, and is not the one that sounds.
-                is_other = keys != it["keys"] and keys[:1] == ["KP"] and keys[1:][-1:] == ["ST"]
+                is_other = any(keying != it["keys"] for keying in keyings_of(keys))
                 counts[1] += is_other
                 counts[2] += is_other and is_doubtful
                 is_wrong = keys != it["keys"] if it["want"] != MAY else is_other and not is_doubtful

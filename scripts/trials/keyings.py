@@ -25,13 +25,13 @@ def keyings_of(name):
 
 
 def objects_of(name):
-    """The keys of mfrx, each with its ms, and the entries, each with its ms, its keys and whether it has a doubt."""
+    """The keys of mfrx, each with its ms, and the entries that have digits, each with its ms, its keys and any doubt."""
     keys, entries = [], []
     with open(name) as objects:
         for it in map(json.loads, objects):
-            if "entry" in it:
+            if "entry" in it and it["sent"]:
                 entries.append((it["from_ms"], ["KP", *it["sent"], "ST"], bool(it["doubts"])))
-            else:
+            elif "entry" not in it:
                 keys.append((it["at_ms"], it["key"]))
     return keys, entries
 

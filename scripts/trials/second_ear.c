@@ -9,8 +9,9 @@
 #include <string.h>
 
 enum { HOP = 20, WINDOW = 80, TONES = 6, NONE = -1 };
-enum { LEAST_LEVEL = 500 * 500, TWIST = 16, CLEAR = 2, SHARE = 3, SHARE_OF = 5, STEADY = 20, STEADY_WINDOWS = 1024 };
-enum { GAP_WINDOWS = 8, PART_WINDOWS = 5, KEY_WINDOWS = 8, KP_WINDOWS = 18, TAIL_WINDOWS = 64, TAIL_ROW = 6, TAIL_WEAKER = 3 };
+enum { LEAST_LEVEL = 500 * 500, TWIST = 16, CLEAR = 2, SHARE = 3, SHARE_OF = 5, STEADY = 20, STEADY_WINDOWS = 32768 };
+enum { GAP_WINDOWS = 8, PART_WINDOWS = 5, KEY_WINDOWS = 8, KP_WINDOWS = 18 };
+enum { TAIL_WINDOWS = 64, TAIL_ROW = 6, TAIL_WEAKER = 3, TAIL_OTHER = 2 };
 
 enum { TAPE = 1420, STRETCH = 200, SPAN = 160, LATER = 40, MOST_OFF = 50 };
 enum { BEFORE = 8, AFTER = 10, STEP = 40, LAST_STEP = 5 };
@@ -98,18 +99,21 @@ static int is_same(struct sight a, struct sight b) { return a.low == b.low && a.
 
 static int64_t strength(struct sight sight) { return sight.low_level + sight.high_level; }
 
-/* The strengths of the pairs that stood out in the last windows, and how many windows there were. */
-static int64_t before[TAIL_WINDOWS], windows;
+/* What stood out in the last windows, and how many windows there were. */
+static struct sight before[TAIL_WINDOWS];
+static int64_t windows;
 
 /* What a window sees, but for tails. */
 static struct sight without_tail(struct sight seen, int64_t at)
 {
     int is_tail = 0, row = 0;
     for (int n = 0; n < TAIL_WINDOWS; n++) {
-        row = TAIL_WEAKER * strength(seen) < before[(at + n) % TAIL_WINDOWS] ? row + 1 : 0;
+        const struct sight earlier = before[(at + n) % TAIL_WINDOWS];
+        const int64_t counted = strength(earlier) / (is_same(seen, earlier) ? 1 : TAIL_OTHER);
+        row = TAIL_WEAKER * strength(seen) < counted ? row + 1 : 0;
         is_tail |= row >= TAIL_ROW;
     }
-    before[at % TAIL_WINDOWS] = strength(seen);
+    before[at % TAIL_WINDOWS] = seen;
     windows = at + 1;
     return is_tail ? (struct sight) { NONE, NONE, 0, 0 } : seen;
 }
@@ -198,7 +202,7 @@ static int64_t hole_of(struct heard key)
     int64_t blank = 0, from = windows > TAIL_WINDOWS ? windows - TAIL_WINDOWS : 0;
     if (from < key.first) from = key.first;
     for (int64_t at = from + 1; at < key.past; at++)
-        blank += before[at % TAIL_WINDOWS] == 0 && before[(at - 1) % TAIL_WINDOWS] == 0;
+        blank += strength(before[at % TAIL_WINDOWS]) == 0 && strength(before[(at - 1) % TAIL_WINDOWS]) == 0;
     return HOP * blank / 8;
 }
 

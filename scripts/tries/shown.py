@@ -1,14 +1,16 @@
-"""The page in HTML, or the picture, of keys: a second reading of the definitions, which knows nothing of mfrx.
+"""Whether a page in HTML, or a picture, shows keys: a second reading of the definitions, which knows nothing of mfrx.
 
-usage: shown.py html|svg < OBJECTS
+usage: shown.py html|svg OBJECTS < SHOWN
 
-OBJECTS are the keys of a sound, as mfrx --json tells them. What is written is what mfrx --html or --svg has to write of
-the same sound.
+OBJECTS are the keys of a sound, as mfrx --json tells them, and SHOWN is what mfrx --html or --svg writes of the same
+sound. What is shown has to be XML, with all that is said of each key, in order, and two bars for each.
 """
-
 import json
+import os
 import sys
-from html import escape
+
+sys.path.insert(0, os.path.join(os.path.dirname(os.path.abspath(__file__)), "..", "lib"))
+from drawing import Drawing, fail, parsed, wanted  # noqa: E402
 
 # The two frequencies of each key, in Hz.
 PAIRS = {
@@ -16,74 +18,22 @@ PAIRS = {
     "7": (700, 1500), "8": (900, 1500), "9": (1100, 1500), "0": (1300, 1500), "KP": (1100, 1700), "ST": (1500, 1700),
     "ST'": (900, 1700), "KP2/ST''": (1300, 1700), "ST'''": (700, 1700),
 }
-FREQUENCIES = (1700, 1500, 1300, 1100, 900, 700)
 MOST_DIGITS = 64
 MOST_DRAWN = 40
-
-# Units of the picture: three are a ms, and five a pixel.
-WIDTH, ROW, LEFT, MS = 5900, 1530, 330, 1800
-LANES, LANE = 230, 110
-AXIS = LANES + 6 * LANE
-DARK, FAINT, RED, BLUE = "#1b2a3a", "#6b7a8a", "#c8102e", "#2f6db5"
-PALE_BLUE, PALE_RED = "#e8f0fa", "#fdeaec"
-SMALL = (46, FAINT, "middle", "normal")
-FREQUENCY = (46, FAINT, "end", "normal")
-MISSED = (46, RED, "middle", "bold")
-NAME = (104, DARK, "middle", "bold")
-HEAD = (76, DARK, "start", "bold")
-RED_HEAD = (76, RED, "start", "bold")
-
-PAGE_START = """<!DOCTYPE html>
-<html lang="en">
-<head>
-<meta charset="utf-8"/>
-<meta name="viewport" content="width=device-width"/>
-<title>What was keyed</title>
-<style>
-:root{color-scheme:light dark;font-family:Helvetica,Arial,sans-serif}
-body{max-width:1180px;margin:2em auto;padding:0 1em}
-svg{max-width:100%;height:auto}
-pre{overflow-x:auto}
-.told{color:#c8102e;white-space:pre-wrap}
-@media(prefers-color-scheme:dark){svg{filter:invert(.9) hue-rotate(180deg)}.told{color:#ff8a98}}
-@media print{section{break-inside:avoid}pre{white-space:pre-wrap;font-size:8pt}}
-</style>
-</head>
-<body>
-<h1>What was keyed</h1>
-"""
-
-
-def words(text):
-    """As XML and HTML have it: a quotation mark by its name, an apostrophe as it is."""
-    return escape(text, quote=False).replace('"', "&quot;")
+ROW_MS = 1800
+# What the scales say: a frequency, or a time.
+SCALE = r"(700|900|1100|1300|1500|1700) Hz|\d+\.\d s"
+BLUE, PALE_BLUE, PALE_RED = "#2f6db5", "#e8f0fa", "#fdeaec"
 
 
 def seconds(ms):
+    """A time in seconds."""
     return "%d.%03d" % divmod(ms, 1000)
 
 
 def tenths(number):
+    """A number in tenths."""
     return "%s%d.%d" % ("-" if number < 0 else "", *divmod(abs(number), 10))
-
-
-def band(x, y, width, height, ink):
-    return f'<rect x="{x}" y="{y}" width="{width}" height="{height}" fill="{ink}"/>\n'
-
-
-def label(x, y, look, text):
-    size, ink, anchor, weight = look
-    return (
-        f'<text x="{x}" y="{y}" font-size="{size}" fill="{ink}" text-anchor="{anchor}" font-weight="{weight}">'
-        f"{words(text)}</text>\n"
-    )
-
-
-def frame(height):
-    return (
-        f'<svg xmlns="http://www.w3.org/2000/svg" viewBox="0 0 {WIDTH} {height}" width="{WIDTH // 5}" '
-        f'height="{height // 5}" font-family="Helvetica, Arial, sans-serif">\n' + band(0, 0, WIDTH, height, "#ffffff")
-    )
 
 
 def parts_of(keys):
@@ -103,71 +53,74 @@ def parts_of(keys):
     return parts
 
 
-def title(part):
+def heading(part):
+    """What keys are, and what was heard."""
     number, keys = part
     at = seconds(keys[0]["at_ms"])
-    return f"key at {at} s" if number is None else f"entry {number} at {at} s"
+    if number is None:
+        return [f"key at {at} s", "in no keying"]
+    return [f"entry {number} at {at} s", "".join(key["key"] for key in keys if key["key"].isdigit())]
 
 
-def heard(part):
-    number, keys = part
-    return "in no keying" if number is None else "".join(key["key"] for key in keys if key["key"].isdigit())
+def missed(key):
+    """The limits that a key misses."""
+    return [] if key["verdict"] == "GOOD" else key["verdict"].split(" ")
 
 
-def foot(top, hz):
-    return top + LANES + LANE * (1 + (1700 - hz) // 200)
-
-
-def ground(top, start):
-    text = ""
-    for hz in FREQUENCIES:
-        text += band(LEFT - 30, foot(top, hz), 30 + 3 * MS, 2, FAINT)
-        text += label(LEFT - 60, foot(top, hz) - 30, FREQUENCY, f"{hz} Hz")
-    text += band(LEFT - 30, top + AXIS, 30 + 3 * MS, 5, FAINT)
-    # A tick at each tenth of a second after the row's beginning, up to 1.8 s after the tenth before that.
-    for tenth in range(start // 100 + 1, start // 100 + 19):
-        x = LEFT + 3 * (100 * tenth - start)
-        text += band(x, top + AXIS, 5, 34, FAINT)
-        text += label(x, top + AXIS + 88, SMALL, "%d.%d s" % divmod(tenth, 10))
-    return text
-
-
-def drawn(part, first):
-    """The part from the row of this number on, and the number of the row below it."""
-    number, keys = part
-    top = ROW * first
-    text = label(LEFT, top + 130, HEAD, title(part))
-    text += label(LEFT + 1300, top + 130, RED_HEAD if number is None else HEAD, heard(part))
-    row, start = first, None
+def rows_of(keys):
+    """Each key with the time at which its row begins."""
+    start = None
     for key in keys:
-        begin, end = key["at_ms"], key["at_ms"] + key["length_ms"]
-        if start is None:
-            start = begin
-        elif end - start > MS:
-            row, start = row + 1, begin
-        top = ROW * row
-        place = lambda ms: LEFT + 3 * min(max(ms - start, 0), MS)
-        middle = lambda one, other: one // 2 + other // 2
-        left, right = place(begin), place(end)
-        missed = [] if key["verdict"] == "GOOD" else key["verdict"].split(" ")
-        if begin == start:
-            text += ground(top, start)
-        text += band(left, top + LANES, right - left, 6 * LANE, PALE_RED if missed else PALE_BLUE)
-        for hz, level in zip(PAIRS[key["key"]], (key["low_dbm0_tenths"], key["high_dbm0_tenths"])):
-            height = min(10 + max(level + 330, 0) // 4, 102)
-            text += band(left, foot(top, hz) - height, right - left, height, BLUE)
-        text += label(middle(left, right), top + AXIS + 205, NAME, key["key"])
-        text += label(middle(left, right), top + AXIS + 272, SMALL, f"{key['length_ms']} ms")
-        for above, limit in enumerate(missed):
-            text += label(middle(left, right), top + AXIS + 328 + 48 * above, MISSED, limit)
-            if limit == "GAP" and begin != start:
-                before = place(begin - key["gap_ms"])
-                text += band(before, top + LANES, left - before, 6 * LANE, PALE_RED)
-                text += label(middle(before, left), top + AXIS + 272, MISSED, f"{key['gap_ms']} ms")
-    return text, row + 1
+        if start is None or key["at_ms"] + key["length_ms"] - start > ROW_MS:
+            start = key["at_ms"]
+        yield key, start
+
+
+def said_of(part):
+    """What a picture has to say of a part."""
+    yield from heading(part)
+    for key, start in rows_of(part[1]):
+        yield key["key"]
+        yield f"{key['length_ms']} ms"
+        for limit in missed(key):
+            yield limit
+            if limit == "GAP" and key["at_ms"] != start:
+                yield f"{key['gap_ms']} ms"
+
+
+def check_bars(drawing, parts):
+    """Each key has a shade and two bars, where it sounds; the higher tone stands above the lower one."""
+    bars = iter([element for element in drawing.elements if element.ink == BLUE])
+    shades = iter([element for element in drawing.elements if element.ink in (PALE_BLUE, PALE_RED)])
+    for _, keys in parts:
+        left = None
+        for key, start in rows_of(keys):
+            name = f"key {key['key']} at {key['at_ms']} ms"
+            shade = next(shades)
+            wanted(f"the ground of {name}", shade.ink, PALE_RED if missed(key) else PALE_BLUE)
+            if "GAP" in missed(key) and key["at_ms"] != start:
+                wanted(f"the gap before {name}", next(shades).right, shade.x)
+            low, high = next(bars), next(bars)
+            left = shade.x if left is None else left
+            length = min(key["at_ms"] + key["length_ms"] - start, ROW_MS) - (key["at_ms"] - start)
+            wanted(f"where {name} begins", shade.x - left, 3 * (key["at_ms"] - start))
+            for bar, level in (low, key["low_dbm0_tenths"]), (high, key["high_dbm0_tenths"]):
+                wanted(f"a bar of {name}", (bar.x, bar.wide), (shade.x, 3 * length))
+                wanted(f"how strong {name} is", bar.high, min(10 + max(level + 330, 0) // 4, 102))
+            lanes = [(shade.foot - bar.foot) * 6 // shade.high for bar in (low, high)]
+            wanted(f"the lanes of {name}", lanes, [(hz - 700) // 200 for hz in PAIRS[key["key"]]])
+    if next(bars, None) or next(shades, None):
+        fail("there are more bars than keys")
+
+
+def check_drawing(drawing, parts, others=()):
+    """A picture says what there is to say of parts, and no more."""
+    wanted("what is said", drawing.texts(SCALE), [text for part in parts for text in said_of(part)] + list(others))
+    check_bars(drawing, parts)
 
 
 def line(key):
+    """The line of a key."""
     skew = "unknown" if key["skew_ms_tenths"] is None else tenths(key["skew_ms_tenths"]) + " ms"
     gap = "first" if key["gap_ms"] is None else f"after {key['gap_ms']} ms"
     return (
@@ -179,52 +132,56 @@ def line(key):
 
 
 def doubts(part):
-    """The lines of what is doubtful of an entry."""
+    """The line of what is doubtful of an entry, by the rhythm of its keys."""
     number, keys = part
-    text = ""
     if number is None:
-        return text
-    head = f"mfrx: entry {number} at {seconds(keys[0]['at_ms'])} s: "
-    for count, key in enumerate(keys, 1):
-        if count > 1 and key["gap_ms"] > 130:
-            text += head + f"{key['gap_ms']} ms between its keys {count - 1} and {count}: one may be missing\n"
-        wanted, length = 100 if key["key"] == "KP" else 68, key["length_ms"]
-        if abs(length - wanted) > 14:
-            short = "one may be too many" if key["key"].isdigit() else "it may be cut"
-            effect = "one may be missing" if length > wanted else short
-            text += head + f"its key {count} lasts {length} ms, not {wanted} give or take 14: {effect}\n"
-    return text
+        return ""
+    lengths, gaps = sorted(key["length_ms"] for key in keys[1:]), sorted(key["gap_ms"] for key in keys[1:])
+    usual, gap = lengths[(len(lengths) - 1) // 2], gaps[(len(gaps) - 1) // 4]
+    told = []
+    for count, key in enumerate(keys[1:], 2):
+        between = f"{key['gap_ms']} ms between its keys {count - 1} and {count}, where {gap} are usual: "
+        if key["gap_ms"] > gap + (gap + usual) // 2 + 8:
+            told.append(between + "one may be missing")
+        elif key["gap_ms"] < 20:
+            told.append(between + "one may be too many")
+        lasts = f"its key {count} lasts {key['length_ms']} ms, where {usual} are usual: "
+        if key["length_ms"] > usual + 2 * usual // 3 + 6:
+            told.append(lasts + "one may be missing")
+        elif key["length_ms"] < usual // 2:
+            told.append(lasts + ("one may be too many" if key["key"].isdigit() else "it may be cut"))
+    if not told:
+        return ""
+    more = f"; the first of {len(told)} doubts" if len(told) > 1 else ""
+    return f"mfrx: entry {number} at {seconds(keys[0]['at_ms'])} s: {told[0]}{more}\n"
 
 
-def section(part):
-    picture, rows = drawn(part, 0)
-    return (
-        f"<section>\n<h2>{title(part)}: {heard(part)}</h2>\n"
-        + frame(ROW * rows) + picture + "</svg>\n<pre>" + words("".join(map(line, part[1])))
-        + '</pre>\n<pre class="told">' + words(doubts(part)) + "</pre>\n</section>\n"
-    )
-
-
-def page(parts):
-    return PAGE_START + "".join(map(section, parts)) + "</body>\n</html>\n"
-
-
-def picture(parts):
-    body, rows = "", 0
-    for part in parts[:MOST_DRAWN]:
-        text, rows = drawn(part, rows)
-        body += text
-    if len(parts) > MOST_DRAWN:
-        body += label(LEFT, ROW * rows + 90, RED_HEAD, f"{len(parts) - MOST_DRAWN} more are not drawn")
-    return frame(ROW * rows + 150) + body + "</svg>\n"
+def check_page(page, parts):
+    """A page has a section for each part: its heading, its picture, its lines, and its doubts."""
+    wanted("the page", page.tag, "html")
+    sections = page.findall("body/section")
+    wanted("how many sections there are", len(sections), len(parts))
+    for section, part in zip(sections, parts):
+        title, picture, lines, told = section
+        wanted("a heading", title.text, ": ".join(heading(part)))
+        check_drawing(Drawing(picture), [part])
+        wanted("the lines of keys", lines.text or "", "".join(map(line, part[1])))
+        wanted("what is doubtful", told.text or "", doubts(part))
 
 
 def main():
-    if sys.argv[1:] not in (["html"], ["svg"]):
-        sys.exit("shown.py: usage: shown.py html|svg < OBJECTS")
-    told = [json.loads(text) for text in sys.stdin]
+    """Reads both, and fails where one is not the other."""
+    if len(sys.argv) != 3 or sys.argv[1] not in ("html", "svg"):
+        sys.exit("shown.py: usage: shown.py html|svg OBJECTS < SHOWN")
+    with open(sys.argv[2], encoding="utf-8") as objects:
+        told = [json.loads(text) for text in objects]
     parts = parts_of([it for it in told if "entry" not in it])
-    sys.stdout.write({"html": page, "svg": picture}[sys.argv[1]](parts))
+    shown = parsed(sys.stdin.read())
+    if sys.argv[1] == "html":
+        check_page(shown, parts)
+    else:
+        others = len(parts) - MOST_DRAWN
+        check_drawing(Drawing(shown), parts[:MOST_DRAWN], [f"{others} more are not drawn"] if others > 0 else [])
 
 
 main()

@@ -7,6 +7,10 @@ const CHAIN_ATTEMPTS = ['none', 'listening', 'complete'];
 const CHAIN_SIGNALS = ['seized', 'digit', 'timed out', 'released', 'closed'];
 const CHAIN_WRONGS = [null, 'break under pulse_min', 'break over pulse_max', 'make under make_min', 'break after ten'];
 
+const MOST_HZ = 65535;
+// An ear that heard for a year has seen this many windows of 20 samples.
+const MOST_WINDOWS = 2 ** 34;
+
 // Why a call is refused, by its status. The first reason in this order is told.
 const REFUSALS = {
   4: 'the line is not 0 to 9999',
@@ -19,12 +23,13 @@ const REFUSALS = {
   23: 'the digits complete no number',
 };
 
+const NO_TONE = 'the frequencies are not 0 to 65535, or the samples not 0 to 80000';
+
 const refusalOf = (status) => new Refused(REFUSALS[status] ?? `status ${status}`);
 
 // What is no number of so many bits is handed on as the greatest, which the module refuses by itself.
 const numberUnder = (limit) => (n) => (Number.isInteger(n) && n >= 0 && n < limit ? n : limit - 1);
 const u32 = numberUnder(2 ** 32);
-const u16 = numberUnder(2 ** 16);
 const u8 = numberUnder(2 ** 8);
 
 function markOf({ kind, value, low, high }) {
@@ -34,10 +39,41 @@ function markOf({ kind, value, low, high }) {
 }
 
 const lampOf = ({ value, elements }) => ({ digit: value, elements: elements.map(Boolean) });
+const lampsOf = ({ entries, phase, breaks, attempt, digits }) => ({
+  entries, phase: CHAIN_PHASES[phase], breaks, attempt: CHAIN_ATTEMPTS[attempt], digits: digits.map(lampOf),
+});
+
+const isWhole = (n, most) => Number.isInteger(n) && n >= 0 && n <= most;
+
+// What the register was told by a row.
+function signalOf({ kind, breaks, elements }, { digit, listens }) {
+  const name = CHAIN_SIGNALS[kind];
+  if (kind !== Signal.DIGIT) return { kind: name };
+  return { kind: name, digit: digit === SPOILED ? null : digit, breaks, elements: elements.map(Boolean),
+    isHeard: listens === 1 };
+}
+
+// What a row gave, and what is known of the line after it, which is read where somebody asks.
+class Row {
+  #taken;
+
+  constructor(taken, entry) {
+    this.entry = entry;
+    this.marks = taken.marks.length ? taken.marks.map(markOf) : [];
+    this.signals = taken.signals.length ? taken.signals.map((signal) => signalOf(signal, taken)) : [];
+    this.wrong = CHAIN_WRONGS[taken.wrong];
+    this.#taken = taken;
+  }
+
+  get lamps() { return lampsOf(this.#taken.lamps); }
+
+  toJSON() { return { ...this, lamps: this.lamps }; }
+}
 
 class Chain {
   // The chain by the route table that a text writes. Throws the table's fault, in the words of mfbank.
   static async open(table) {
+    if (typeof table !== 'string') throw new Refused('a table is a text');
     const chain = new Chain();
     const wasms = [MODULE, LOWERED].map(wasmOf);
     chain.reader = await Reader.open(wasmOf(READER));
@@ -52,19 +88,12 @@ class Chain {
   // A row of a line: what it gave, and what is known of the line after it.
   take(line, state, ms) {
     const number = u32(line);
-    const status = this.module.take(number, String(state).length === 1 ? state : '?', u32(ms));
+    const letter = typeof state === 'string' && state.length === 1 ? state : '?';
+    const status = this.module.take(number, letter, u32(ms));
     if (status) throw refusalOf(status);
-    const { marks, signals, lamps, wrong, digit, listens } = this.module.lastTaken();
-    return {
-      ...this.given(number, marks, lamps),
-      signals: signals.map(({ kind, breaks, elements }) => {
-        const name = CHAIN_SIGNALS[kind];
-        if (kind !== Signal.DIGIT) return { kind: name };
-        return { kind: name, digit: digit === SPOILED ? null : digit, breaks, elements: elements.map(Boolean),
-          isHeard: listens === 1 };
-      }),
-      wrong: CHAIN_WRONGS[wrong],
-    };
+    const taken = this.module.lastTaken();
+    const { marks } = taken;
+    return new Row(taken, marks.length ? this.entryOf(number, marks, taken.lamps) : null);
   }
 
   seize(line) { return this.tell(line, Told.SEIZURE); }
@@ -88,24 +117,17 @@ class Chain {
     const number = u32(line);
     const { status, marks } = this.module.tell(number, kind, digit);
     if (status) throw refusalOf(status);
-    return this.given(number, marks, this.module.stateOf(number));
+    const lamps = this.module.stateOf(number);
+    return { entry: this.entryOf(number, marks, lamps), marks: marks.map(markOf), lamps: lampsOf(lamps) };
   }
 
-  given(line, marks, { entries, phase, breaks, attempt, digits }) {
-    return {
-      entry: marks.length ? this.module.entryText(line, entries, marks) : null,
-      marks: marks.map(markOf),
-      lamps: {
-        entries, phase: CHAIN_PHASES[phase], breaks, attempt: CHAIN_ATTEMPTS[attempt], digits: digits.map(lampOf),
-      },
-    };
-  }
+  entryOf(line, marks, { entries }) { return marks.length ? this.module.entryText(line, entries, marks) : null; }
 
   // ---- numbers, texts and sounds
 
   // What becomes of a number that is dialled on no line: its marks, and the code of the route that decides it.
   route(number) {
-    if (!/^[0-9]*$/.test(number)) throw refusalOf(19);
+    if (typeof number !== 'string' || !/^[0-9]*$/.test(number)) throw refusalOf(19);
     const { status, marks } = this.module.marksOfNumber(number);
     if (status) throw refusalOf(status);
     return { code: this.module.codeOf(number), marks: marks.map(markOf) };
@@ -116,22 +138,30 @@ class Chain {
 
   // So many samples of a tone of two frequencies in Hz, 8,000 a second.
   tone(low, high, samples) {
-    if (!(Number.isInteger(samples) && samples >= 0 && samples <= MOST_SAMPLES)) {
-      throw new RangeError(`not 0 to ${MOST_SAMPLES} samples`);
-    }
-    return this.module.tone(u16(low), u16(high), samples);
+    const isTone = isWhole(low, MOST_HZ) && isWhole(high, MOST_HZ) && isWhole(samples, MOST_SAMPLES);
+    if (!isTone) throw new Refused(NO_TONE);
+    return this.module.tone(low, high, samples);
   }
 
   // The times of a sender, in ms: the silence before, KP, a key, and the silence after each.
   cadence() { return this.module.cadence(); }
 }
 
-// An ear that hears samples of 16 bits, 8,000 a second, in parts of any lengths.
+function moduleOf(chain) {
+  if (!(chain instanceof Chain)) throw new Refused('it is no chain');
+  return chain.module;
+}
+
+// An ear that hears samples of 16 bits, or from -1 to 1, 8,000 a second, in parts of any lengths.
 class ChainEar {
-  constructor(chain) { this.ear = new Ear(chain.module); }
+  constructor(chain) { this.ear = new Ear(moduleOf(chain)); }
 
   // The keys that these samples end.
-  hear(samples) { return this.ear.hear(samples).map(heardKeyOf); }
+  hear(samples) {
+    const whole = samples instanceof Float32Array ? wholeSamples(samples) : samples;
+    if (!(whole instanceof Int16Array)) throw new Refused('the samples are no Int16Array or Float32Array');
+    return this.ear.hear(whole).map(heardKeyOf);
+  }
 
   // The key that sounds where the samples end, if there is one.
   end() { return this.ear.end().map(heardKeyOf); }
@@ -140,8 +170,8 @@ class ChainEar {
 // An incoming register, and the office behind it, by the table of the chain.
 class ChainRegister {
   constructor(chain) {
-    this.module = chain.module;
-    this.register = new Incoming(chain.module);
+    this.module = moduleOf(chain);
+    this.register = new Incoming(this.module);
     this.count = 0;
   }
 
@@ -166,11 +196,20 @@ function heardKeyOf({ kind, value, low, high, first, past }) {
 }
 
 // What an ear told of that key.
-function windowsOf({ key, from, until }) {
+function windowsOf(given) {
+  const { key, from, until } = given ?? {};
+  const isHeard = typeof key === 'string' && isWhole(from / 20, MOST_WINDOWS) && isWhole((until - 60) / 20, MOST_WINDOWS)
+    && from < until;
+  if (!isHeard) throw new Refused('it is no key of an ear');
   const kind = { KP: Kind.KP, ST: Kind.ST }[key] ?? (/^[0-9]$/.test(key) ? Kind.DIGIT : OTHER_PAIR);
   return { kind, value: kind === Kind.DIGIT ? Number(key) : 0, first: from / 20, past: (until - 60) / 20 };
 }
 
-const bytesOfText = (deck) => (typeof deck === 'string' ? new TextEncoder().encode(deck) : deck);
+function bytesOfText(deck) {
+  const bytes = typeof deck === 'string' ? new TextEncoder().encode(deck) : deck;
+  if (!(bytes instanceof Uint8Array)) throw new Refused('a deck is a text or a Uint8Array');
+  return bytes;
+}
+
 const wasmOf = (text) => Uint8Array.from(atob(text), (letter) => letter.charCodeAt(0));
 const open = (table) => Chain.open(table);

@@ -11,11 +11,18 @@ class Clock {
 
   now() { return this.stands ?? this.before + (performance.now() - this.began) * this.pace; }
 
+  // How many ms of the visitor's time a moment is past.
+  ago(moment) { return (this.before - moment) / this.pace + performance.now() - this.began; }
+
   // Does something as at a moment that has passed.
   at(moment, what) {
+    const { stands } = this;
     this.stands = moment;
-    try { what(); } finally { this.stands = null; }
+    try { what(); } finally { this.stands = stands; }
   }
+
+  // Does something as at one moment: a page may stand still between two looks at the clock.
+  atOnce(what) { this.at(this.now(), what); }
 
   setPace(pace) {
     this.before = this.now();

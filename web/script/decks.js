@@ -30,8 +30,7 @@ class Decks {
   begin(name, bytes) {
     const began = performance.now();
     $('read').textContent = `Reading ${name}`;
-    this.worker = new Worker(this.script);
-    this.worker.onmessage = ({ data: { page, fault, told = [] } }) => {
+    const given = ({ page, fault, told = [] }) => {
       const seconds = ((performance.now() - began) / 1000).toFixed(1);
       this.stop(fault ? `${name} is refused.` : `${name}: read in ${seconds} s.`);
       if (fault) this.showFault(fault);
@@ -39,7 +38,16 @@ class Decks {
       this.isRefused = Boolean(fault);
       showPlaces($('deck-places'), told);
     };
-    this.worker.onerror = () => this.stop('The deck could not be read by this browser.');
+    const failed = () => this.stop('The deck could not be read by this browser.');
+    try {
+      this.worker = new Worker(this.script);
+    } catch {
+      // without workers the page stands still while it reads
+      pageOfDeck(this.wasm, bytes).then(given, failed);
+      return;
+    }
+    this.worker.onmessage = ({ data }) => given(data);
+    this.worker.onerror = failed;
     this.worker.postMessage({ wasm: this.wasm, bytes }, [bytes.buffer]);
   }
 

@@ -2,7 +2,7 @@
 // Only the way back sends anything, so one that is let go too early sends fewer pulses, as a real one does.
 
 const DIAL_LETTERS = {
-  1: '', 2: 'ABC', 3: 'DEF', 4: 'GHI', 5: 'JKL', 6: 'MNO', 7: 'PRS', 8: 'TUV', 9: 'WXY', 0: 'OPERATOR',
+  1: '', 2: 'ABC', 3: 'DEF', 4: 'GHI', 5: 'JKL', 6: 'MNO', 7: 'PRS', 8: 'TUV', 9: 'WXY', 0: 'OPER',
 };
 const DIAL_DIGITS = ['1', '2', '3', '4', '5', '6', '7', '8', '9', '0'];
 
@@ -11,7 +11,8 @@ const DIAL_DIGITS = ['1', '2', '3', '4', '5', '6', '7', '8', '9', '0'];
 const STOP_ANGLE = 128;
 const STEP_ANGLE = 30;
 const HOLE_DISTANCE = 112;
-const HOLE_RADIUS = 23;
+const HOLE_RADIUS = 24;
+const DIAL_WIDTH = 320;
 
 // The times of a contact for each pulse, in ms; `more` is how many pulses it sends too many.
 const DIAL_KINDS = {
@@ -30,22 +31,27 @@ function pointAt(degrees, radius) {
   return { x: radius * Math.cos(at), y: radius * Math.sin(at) };
 }
 
+// A press that hardly moved, in degrees: the wheel then turns by itself.
+const isTap = ({ moved }) => moved < 4;
+
 class Dial {
-  // tapped: is given the digit of a hole that was tapped, or pressed by a key.
-  constructor(top, name, clock, loop, tapped) {
-    Object.assign(this, { top, clock, loop, tapped });
+  // tapped: is given the digit of a hole that was tapped, or pressed by a key. turned: a hand begins to turn the wheel.
+  constructor(top, name, clock, loop, { tapped, turned }) {
+    Object.assign(this, { top, clock, loop, tapped, turned });
     this.kind = 'good';
     this.angle = 0;
     this.asked = [];       // digits that keys or taps asked for, and that are still to be dialled, each with its moment
     this.drag = null;      // a finger or a mouse in a hole
+    this.tap = null;       // one that is put on a figure while the wheel turns by itself
     this.winding = null;   // the wheel goes to the stop by itself
     this.running = null;   // it runs back
     this.restsUntil = 0;
+    this.heldUntil = 0;    // until then the wheel is held where a hand lets go of it
     this.draw(name);
     top.addEventListener('pointerdown', (event) => this.press(event));
     top.addEventListener('pointermove', (event) => this.turn(event));
-    top.addEventListener('pointerup', () => this.release());
-    top.addEventListener('pointercancel', () => this.release());
+    top.addEventListener('pointerup', (event) => this.release(event));
+    top.addEventListener('pointercancel', (event) => this.release(event));
   }
 
   isBusy() { return Boolean(this.drag || this.winding || this.running); }
@@ -61,30 +67,60 @@ class Dial {
   }
 
   press(event) {
+    if (this.drag) return;
+    if (this.isBusy()) {
+      this.tap = { digit: this.figureAt(event), finger: event.pointerId };
+      return;
+    }
     const digit = event.target.dataset.digit;
-    if (!digit || this.isBusy()) return;
+    if (!digit) return;
     event.preventDefault();
     this.top.setPointerCapture(event.pointerId);
-    this.drag = { digit, last: this.angleOf(event), moved: 0 };
+    this.drag = { digit, finger: event.pointerId, last: this.angleOf(event), moved: 0 };
   }
 
+  // A second finger or a palm on the dial does nothing. A page that is late is given several moves as one.
   turn(event) {
-    if (!this.drag) return;
-    const angle = this.angleOf(event);
+    if (event.pointerId !== this.drag?.finger) return;
+    const moves = event.getCoalescedEvents?.() ?? [];
+    for (const move of moves.length ? moves : [event]) this.turnTo(this.angleOf(move));
+  }
+
+  turnTo(angle) {
     const step = ((angle - this.drag.last + 540) % 360) - 180;
     this.drag.last = angle;
+    if (isTap(this.drag) && !isTap({ moved: this.drag.moved + Math.abs(step) })) this.turned();
     this.drag.moved += Math.abs(step);
     this.angle = Math.max(0, Math.min(turnOf(this.drag.digit), this.angle + step));
   }
 
-  release() {
-    if (!this.drag) return;
-    const { digit, moved } = this.drag;
+  release(event) {
+    if (event.pointerId === this.tap?.finger) this.releaseTap(event);
+    if (event.pointerId !== this.drag?.finger) return;
+    const { drag } = this;
     this.drag = null;
-    // a press that hardly moved is a tap: the wheel then turns by itself
-    if (moved >= 4) { this.letGo(this.clock.now()); return; }
+    // what was asked for meanwhile begins now
+    this.restsUntil = Math.max(this.restsUntil, this.clock.now());
+    if (!isTap(drag)) { this.letGo(Math.max(this.clock.now(), this.heldUntil)); return; }
     this.angle = 0;
-    this.tapped(digit);
+    this.tapped(drag.digit);
+  }
+
+  // The holes have turned away from the figures, and who taps reads these.
+  releaseTap(event) {
+    const { digit } = this.tap;
+    this.tap = null;
+    if (event.type === 'pointerup' && digit && digit === this.figureAt(event)) this.tapped(digit);
+  }
+
+  // The digit that is written where a finger or a mouse is.
+  figureAt({ clientX, clientY }) {
+    const { left, top, width } = this.top.getBoundingClientRect();
+    const [x, y] = [clientX - left, clientY - top].map((at) => (at / width - 0.5) * DIAL_WIDTH);
+    return DIAL_DIGITS.find((digit) => {
+      const figure = pointAt(STOP_ANGLE - turnOf(digit), HOLE_DISTANCE);
+      return Math.hypot(x - figure.x, y - figure.y) <= HOLE_RADIUS;
+    });
   }
 
   // ---- by itself
@@ -134,7 +170,7 @@ class Dial {
   wind(now) {
     const { digit, from, takes } = this.winding;
     const ends = from + takes;
-    this.angle = turnOf(digit) * Math.min(1, (now - from) / takes);
+    this.angle = turnOf(digit) * Math.max(0, Math.min(1, (now - from) / takes));
     if (now < ends) return false;
     this.winding = null;
     this.letGo(ends);
@@ -161,8 +197,8 @@ class Dial {
     makeSvg('path', { class: 'wheel', d: plate, 'fill-rule': 'evenodd' }, this.wheel);
     for (const { digit, x, y } of holes) this.drawHole(digit, x, y, name);
     makeSvg('circle', { class: 'card', r: 62 }, this.top);
-    makeSvg('text', { class: 'name', y: 1 }, this.top, name);
-    makeSvg('text', { class: 'under', y: 19 }, this.top, 'turn, let go');
+    makeSvg('text', { class: 'name', y: -8 }, this.top, name);
+    makeSvg('text', { class: 'under', y: 15 }, this.top, 'turn, let go');
     const [inner, outer] = [pointAt(STOP_ANGLE + 2, 92), pointAt(STOP_ANGLE + 2, 150)];
     makeSvg('path', { class: 'stop', d: `M${inner.x} ${inner.y}L${outer.x} ${outer.y}` }, this.top);
   }
@@ -170,8 +206,8 @@ class Dial {
   drawFigure(digit) {
     const { x, y } = pointAt(STOP_ANGLE - turnOf(digit), HOLE_DISTANCE);
     const letters = DIAL_LETTERS[digit];
-    makeSvg('text', { class: 'figure', x, y: letters ? y + 4 : y }, this.top, digit);
-    makeSvg('text', { class: letters.length > 3 ? 'letters long' : 'letters', x, y: y - 11 }, this.top, letters);
+    makeSvg('text', { class: 'figure', x, y: letters ? y + 8 : y }, this.top, digit);
+    makeSvg('text', { class: 'letters', x, y: y - 10 }, this.top, letters);
   }
 
   drawHole(digit, cx, cy, name) {

@@ -18,8 +18,18 @@ function makeSvg(name, attributes = {}, parent = null, text = '') {
   return made;
 }
 
+// Does something whose fault is said in the console, and ends nothing else.
+function guarded(what) {
+  try {
+    what();
+  } catch (fault) {
+    setTimeout(() => { throw fault; });
+  }
+}
+
+// How much larger the page's letters are than on a desk, as those of a museum's screen.
+const largerBy = () => parseFloat(getComputedStyle(document.documentElement).fontSize) / 16;
+
 const plural = (count, word) => `${count} ${word}${count === 1 ? '' : 's'}`;
 
-const narrow = matchMedia('(max-width: 860px)');
-const low = matchMedia('(max-height: 820px)');
 const lessMotion = matchMedia('(prefers-reduced-motion: reduce)');

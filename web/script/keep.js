@@ -1,6 +1,8 @@
 // What a visitor takes away: a link to a call, the deck of what was dialled, and the sound of a keying.
 
 const MOST_LINKED_DIGITS = 10;
+const SHARE_WORDS = 'Copy a link to this call';
+const COPIED_MS = 2500;
 const WAV_HEAD_BYTES = 44;
 const WAV_RATE = 8000;
 
@@ -8,18 +10,34 @@ const letterDigit = (letter) => {
   return DIAL_DIGITS.find((digit) => digit !== '0' && DIAL_LETTERS[digit].includes(letter)) ?? '';
 };
 
-// The digits of a number as people write it, as 234-5678 or PE6-5000; '' where something else is in it.
+// The digits of a number as people write it, as 234-5678, PE6-5000 or 1-212-555-1234; '' where something else is in it.
+// A 1 before ten digits is dialled by no caller of this office.
 function digitsOf(text) {
-  const plain = text.toUpperCase().replace(/[-.() ]/g, '');
+  const plain = text.toUpperCase().replace(/[-+./() ]/g, '').replace(/^1(?=.{10}$)/, '');
   const digits = [...plain].map((sign) => (/[0-9]/.test(sign) ? sign : letterDigit(sign)));
   return digits.length > 0 && digits.length <= MOST_LINKED_DIGITS && digits.every(Boolean) ? digits.join('') : '';
 }
 
-// The number that a link asks for, or ''.
-function linkedNumber() {
-  const [, text] = /(?:^#|,)dial=([^,]*)/.exec(decodeURIComponent(location.hash)) ?? [];
-  return text ? digitsOf(text) : '';
+// The words of an address, as `kiosk=60`, behind its # or its ?.
+const wordsOf = ({ hash, search }) => [hash, search].flatMap((part) => part.slice(1).split(/[,&]/));
+
+// What a link asks for: a number to be dialled, or ''; and what it says in place of one, or ''.
+function linkAsked(address) {
+  const text = wordsOf(address).find((word) => word.startsWith('dial='))?.slice('dial='.length) ?? '';
+  let read = text;
+  try {
+    read = decodeURIComponent(text);
+  } catch {
+    // a % that begins no sign is in no number
+  }
+  const number = digitsOf(read);
+  return { number, wrong: number ? '' : read.trim() };
 }
+
+// A number as people write it: PE6-5000 was written so too.
+const spaced = (number) => number.replace(/^(...)?(...)(....)$/, (_, area, office, rest) => {
+  return `${area ? `${area} ` : ''}${office} ${rest}`;
+});
 
 // Samples from -1 to 1 as a WAV of 16 bits.
 function wavOf(samples) {
@@ -67,28 +85,31 @@ class Keepsakes {
   constructor(office) {
     this.office = office;
     this.number = '';      // what was dialled last and has its entry
-    $('link').addEventListener('click', () => this.copyLink());
     $('save-deck').addEventListener('click', () => this.saveDeck());
     $('save-sound').addEventListener('click', () => this.saveSound());
   }
 
   // A call has its entry.
-  entryGiven(number) {
+  entryGiven(telephone, number) {
     if (!/^[0-9]+$/.test(number)) return;
     this.number = number;
-    $('link').disabled = false;
+    telephone.linked = number;
+    telephone.find('share').disabled = false;
   }
 
-  async copyLink() {
-    const link = `${location.href.replace(/#.*$/, '')}#dial=${this.number}`;
+  async copyLink({ linked, find }) {
+    const link = `${location.href.replace(/[?#].*$/, '')}#dial=${linked}`;
+    let words = 'Copied';
     try {
       await navigator.clipboard.writeText(link);
-      $('kept').textContent = `Copied: ${link}`;
     } catch {
       // a browser that gives no clipboard has an address bar
       history.replaceState(null, '', link);
-      $('kept').textContent = 'The link stands in the address bar.';
+      words = 'It is in the address bar';
     }
+    find('share').textContent = words;
+    $('kept').textContent = `${words}: ${link}`;
+    setTimeout(() => { find('share').textContent = SHARE_WORDS; }, COPIED_MS);
   }
 
   saveDeck() {

@@ -1,7 +1,9 @@
 // A museum's screen (`#kiosk`, or `#kiosk=SECONDS`): once nobody has touched it for a minute it is as at first, and
-// shows a call again.
+// shows a call again. Nothing on it leads away, and no hand makes it larger or chooses its text.
 
 const KIOSK_SECONDS = 60;
+const LEAST_KIOSK_SECONDS = 4;
+const MOST_KIOSK_SECONDS = 86400;
 
 class Kiosk {
   constructor(office, seconds) {
@@ -11,6 +13,11 @@ class Kiosk {
     for (const name of ['pointerdown', 'keydown']) {
       addEventListener(name, () => { this.touchedAt = performance.now(); }, true);
     }
+    for (const link of document.querySelectorAll('a')) link.removeAttribute('href');
+    for (const name of ['contextmenu', 'gesturestart', 'dragstart']) {
+      addEventListener(name, (event) => event.preventDefault());
+    }
+    addEventListener('wheel', (event) => { if (event.ctrlKey) event.preventDefault(); }, { passive: false });
     setInterval(() => this.look(), 500);
   }
 
@@ -22,7 +29,9 @@ class Kiosk {
 }
 
 // What the address asks for beside a call: the looks `kiosk` and `embed`, and after how many seconds a kiosk rests.
-function lookAsked() {
-  const [, look, seconds] = /(?:^#|,)(kiosk|embed)(?:=([0-9]{1,4}))?(?:,|$)/.exec(location.hash) ?? [];
-  return { look, seconds: Number(seconds) || KIOSK_SECONDS };
+function lookAsked(address) {
+  const [look, seconds] = wordsOf(address).map((word) => word.split('='))
+    .find(([name]) => name === 'kiosk' || name === 'embed') ?? [];
+  const asked = Number(seconds) || KIOSK_SECONDS;
+  return { look, seconds: Math.min(Math.max(asked, LEAST_KIOSK_SECONDS), MOST_KIOSK_SECONDS) };
 }

@@ -22,15 +22,18 @@ class Loop {
     this.coming.sort((a, b) => a.at - b.at);
   }
 
-  // Tells the module all that has happened until now: a row for the time before each change, and one for the rest.
+  // Tells the module all that has happened until now: a row for the time before each change, and one for the rest. Where
+  // a change is explained, time goes on from its moment at another pace, and no more has happened.
   tell() {
+    const { pace } = this.clock;
     const until = Math.floor(this.clock.now());
     while (this.coming.length && this.coming[0].at <= until) {
       const { contact, closed, at } = this.coming.shift();
       this.giveRow(Math.max(Math.floor(at), this.toldUntil));
       const was = this.isClosed();
       this.contacts[contact] = closed;
-      if (this.isClosed() !== was) this.listener.changed(this.toldUntil, !was);
+      if (this.isClosed() !== was) this.clock.at(this.toldUntil, () => this.listener.changed(this.toldUntil, !was));
+      if (this.clock.pace !== pace) return;
     }
     this.giveRow(until);
   }
@@ -49,10 +52,11 @@ class Loop {
     const taken = this.module.lastTaken();
     // an entry is given whatever became of the picture of its row
     try {
-      this.listener.rowTaken({ closed, ms, from, at: until, ...taken });
+      const { signals, wrong, digit, listens } = taken;
+      this.listener.rowTaken({ closed, ms, from, at: until, signals, wrong, digit, listens });
     } finally {
-      const { marks, lamps } = taken;
-      if (marks.length) this.listener.entryGiven(this.module.entryText(this.line, lamps.entries, marks), marks);
+      const { marks } = taken;
+      if (marks.length) this.listener.entryGiven(this.module.entryText(this.line, taken.lamps.entries, marks), marks);
     }
   }
 }

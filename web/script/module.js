@@ -27,6 +27,22 @@ const Wrong = { NOTHING: 0, SHORT_BREAK: 1, LONG_BREAK: 2, SHORT_MAKE: 3, EXTRA_
 // The digit of a row that ended one which cannot be told.
 const SPOILED = 10;
 
+// What a row gave. Nearly all rows give nothing, and their lamps are read where somebody asks for them.
+class Taken {
+  constructor(module) {
+    const { ofTaken } = module;
+    this.module = module;
+    this.marks = module.listOf('mark', ofTaken.marks, module.number(ofTaken.mark_count));
+    this.signals = module.listOf('signal', ofTaken.signals, module.number(ofTaken.signal_count));
+    this.wrong = module.number(ofTaken.wrong);
+    this.digit = module.number(ofTaken.digit);
+    this.listens = module.number(ofTaken.listens);
+    this.words = module.wordsOfLamps();
+  }
+
+  get lamps() { return this.module.lampsOf(this.words); }
+}
+
 class Module {
   static async open(wasm) {
     return new Module((await WebAssembly.instantiate(wasm, {})).instance.exports);
@@ -58,6 +74,11 @@ class Module {
     this.putRow = this.memory.putter('row', this.at.row);
     this.lineBytes = this.memory.bytesOf('line');
     this.ofRow = { table: BigInt(this.at.table), row: BigInt(this.at.row), taken: BigInt(this.at.taken) };
+    const placeOf = (field) => [field, this.memory.placeOf('taken', field, this.at.taken)];
+    this.ofTaken = Object.fromEntries(['marks', 'signals', 'mark_count', 'signal_count', 'lamps', 'wrong', 'digit',
+      'listens'].map(placeOf));
+    this.words = new Uint32Array(exports.memory.buffer);
+    this.lampsWords = this.memory.bytesOf('lamps') / 4;
   }
 
   number(at) { return this.view.getUint32(at, true); }
@@ -115,11 +136,21 @@ class Module {
   }
 
   // What the last row gave.
-  lastTaken() {
-    const { memory, at: { taken } } = this;
-    const numberOf = (field) => this.number(memory.placeOf('taken', field, taken));
-    const lamps = this.countsOfLamps(memory.placeOf('taken', 'lamps', taken));
-    return memory.read('taken', taken, { marks: numberOf('mark_count'), signals: numberOf('signal_count'), lamps });
+  lastTaken() { return new Taken(this); }
+
+  listOf(type, at, count) { return count === 0 ? [] : this.memory.list(type, at, count); }
+
+  // The lamps of a row, as words: the next row writes others.
+  wordsOfLamps() {
+    const words = [];
+    const from = this.ofTaken.lamps / 4;
+    for (let i = from; i < from + this.lampsWords; i++) words.push(this.words[i]);
+    return words;
+  }
+
+  lampsOf(words) {
+    this.words.set(words, this.at.lamps / 4);
+    return this.memory.read('lamps', this.at.lamps, this.countsOfLamps(this.at.lamps));
   }
 
   // Tells what was heard on a line by itself: the marks that this gives, or the status for which it is refused.

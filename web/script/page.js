@@ -24,6 +24,8 @@ class Office {
     this.decks = new Decks(wasm);
     this.recordings = new Recordings(module, this.second);
     this.coming = [];
+    this.linked = '';          // the number of the link that was followed
+    this.isSilenced = false;   // a visitor turned the sound off
     this.demonstrated = 0;     // how many calls of a demonstration are still to give their entry
     this.resting = null;       // the timer of the next picture, where nothing moves
     this.telephones = LINES.map((line) => new Telephone(line, module, this.clock, this));
@@ -50,20 +52,24 @@ class Office {
     document.body.classList.toggle('row', isRow);
     this.telephones.forEach((telephone, i) => { telephone.top.hidden = i > 0 && !isRow; });
     $('row').textContent = isRow ? 'One telephone' : 'Three telephones';
-    $('demo-words').textContent = isRow ? 'Hear three calls' : 'Hear a call';
-    this.foldWords();
+    this.nameCall();
     this.sender.redraw();
   }
 
-  foldWords() {
-    for (const telephone of this.telephones) telephone.foldWords(this.isRow || narrow.matches || low.matches);
+  // The big button says what it does.
+  nameCall() {
+    const one = this.linked ? `Hear this call: ${spaced(this.linked)}` : `Dial ${FIRST_CALL}, and listen`;
+    $('demo-words').textContent = this.isRow ? 'Dial all three, and listen' : one;
   }
+
+  // A stage is seen, with its words, once a call has reached it.
+  reach(stage) { stage.classList.add('reached'); }
 
   // One that is under way is not begun anew.
   demonstrate() {
     if (this.demonstrated > 0) return;
-    const numbers = this.isRow ? CALLS_AT_ONCE : [FIRST_CALL];
-    numbers.forEach((number, i) => this.telephones[i].dialNumber(number));
+    const numbers = this.isRow ? CALLS_AT_ONCE : [this.linked || FIRST_CALL];
+    numbers.forEach((number, i) => this.telephones[i].showCall(number));
     this.demonstrated = numbers.length;
   }
 
@@ -73,16 +79,24 @@ class Office {
     this.explain.stop();
   }
 
-  // As at first: all hung up, nothing on the tape, and a call that is shown.
+  // As at first: all hung up, nothing on the tape or chosen, and a call that is shown.
   beginAgain() {
     this.touched();
     for (const telephone of this.telephones) {
       telephone.hang(false);
       telephone.reset();
+      telephone.setKind('good');
     }
     $('entries').textContent = '';
+    $('keys').checked = true;
+    this.setPace(1);
+    this.setNoise(0);
     this.setSound(false);
+    this.isSilenced = false;
     this.setRow(false);
+    for (const stage of document.querySelectorAll('.reached')) stage.classList.remove('reached');
+    document.activeElement.blur();
+    scrollTo(0, 0);
     this.sender.clear();
     this.route.clear();
     this.second.clear();
@@ -96,7 +110,7 @@ class Office {
 
   hungUp(telephone) { this.sender.silence(telephone.name); }
 
-  clicked(closed) { if (this.clock.pace <= 1) this.sound.click(closed); }
+  clicked(closed, at) { if (this.clock.pace <= 1) this.sound.click(closed, this.clock.ago(at)); }
 
   seized() {
     if (this.isRow) return;
@@ -107,13 +121,18 @@ class Office {
   entryGiven(telephone, text, marks) {
     if (this.demonstrated > 0) this.demonstrated -= 1;
     const number = telephone.numberDialled();
-    this.keepsakes.entryGiven(number);
+    // a keying that sounds once more ends no later call
+    const { turn } = telephone;
+    const isOver = () => { if (turn === telephone.turn) telephone.isOver(); };
+    this.keepsakes.entryGiven(telephone, number);
+    this.reach($('routing'));
     if (isRefusal(marks[0])) {
       const why = this.whyRefused(marks[0], number);
       const entry = this.tape.add(text, `${telephone.name} is refused: ${why}`, true);
       this.route.showRefused(telephone.name, why);
       const label = `${telephone.name}, refused: ${why}`;
-      this.tape.addPicture(entry, new AttemptPicture(telephone.attempt, label).svg);
+      guarded(() => this.tape.addPicture(entry, new AttemptPicture(telephone.attempt, label).svg));
+      isOver();
       return;
     }
     const keyed = marks.filter((mark) => mark.kind === Kind.DIGIT).map((mark) => mark.value).join('');
@@ -122,8 +141,12 @@ class Office {
     const told = (keys, heard) => {
       this.tape.showHeard(entry, keys, heard);
       this.explain.at('far');
+      isOver();
     };
-    const send = () => this.sender.send(telephone.name, marks, told);
+    const send = () => {
+      this.reach($('sending'));
+      this.sender.send(telephone.name, marks, told);
+    };
     const keyedNow = () => { if (!this.explain.at('sending', send)) send(); };
     if (!this.explain.at('routing', keyedNow)) keyedNow();
   }
@@ -164,10 +187,16 @@ class Office {
 
   listen() {
     $('demo').addEventListener('click', () => { this.setSound(true); this.demonstrate(); });
+    for (const name of ['pointerup', 'keydown', 'click']) addEventListener(name, (event) => this.gesture(event), true);
+    addEventListener('hashchange', () => this.follow());
     $('row').addEventListener('click', () => this.setRow(!this.isRow));
-    $('sound').addEventListener('click', () => this.setSound(!this.sound.isOn));
-    $('pace').addEventListener('change', () => { this.move(); this.clock.setPace(Number($('pace').value)); });
-    $('noise').addEventListener('change', () => { this.sender.noise = Number($('noise').value); });
+    $('sound').addEventListener('click', () => {
+      this.isSilenced = this.sound.isOn;
+      this.setSound(!this.sound.isOn);
+      if (this.sound.isOn) this.sender.sendAgain();
+    });
+    $('pace').addEventListener('change', () => this.setPace(Number($('pace').value)));
+    $('noise').addEventListener('change', () => this.setNoise(Number($('noise').value)));
     $('example').addEventListener('click', () => this.readExample());
     $('file').addEventListener('change', () => {
       this.readFile($('file').files[0]);
@@ -179,7 +208,6 @@ class Office {
     document.addEventListener('click', ({ detail, target }) => { if (detail > 0) target.closest('button')?.blur(); });
     for (const name of ['dragover', 'dragleave', 'drop']) document.addEventListener(name, (event) => this.drag(event));
     matchMedia('(prefers-color-scheme: dark)').addEventListener('change', () => this.readColours());
-    for (const size of [narrow, low]) size.addEventListener('change', () => this.foldWords());
     addEventListener('resize', () => { this.redraw(); this.sender.redraw(); });
     for (const name of ['pointerdown', 'keydown', 'click']) addEventListener(name, () => this.stir(), true);
   }
@@ -189,17 +217,31 @@ class Office {
     const isOn = this.sound.turn(on);
     $('sound').setAttribute('aria-pressed', String(isOn));
     $('sounds').textContent = this.sound.isLacking ? 'is not to be had here' : isOn ? 'on' : 'off';
-    if (isOn && !wasOn) this.sender.sendAgain();
+    if (isOn && !wasOn) this.sender.resound();
+  }
+
+  // A browser gives sound from the first gesture on, and so does the page, unless its visitor turned it off.
+  gesture({ key, target, isTrusted }) {
+    const isNone = !isTrusted || key === 'Tab' || key === 'Escape' || target.closest?.('#sound');
+    if (!isNone && !this.isSilenced && !this.sound.isOn) this.setSound(true);
+  }
+
+  setPace(pace) {
+    this.move();
+    this.clock.setPace(pace);
+    if (pace > 0) $('pace').value = String(pace);
+  }
+
+  setNoise(most) {
+    this.sender.noise = most;
+    $('noise').value = String(most);
   }
 
   key(event) {
     const { target, key } = event;
     if (event.ctrlKey || event.metaKey || event.altKey || event.repeat) return;
     if (/^(TEXTAREA|SELECT)$/.test(target.tagName)) return;
-    if (/^[0-9]$/.test(key) && $('keys').checked) {
-      this.touched();
-      this.chosen.ask(key);
-    }
+    if (/^[0-9]$/.test(key) && $('keys').checked) this.chosen.ask(key);
     // anywhere else the space bar has something to do of its own
     if (key === ' ' && target === document.body) {
       event.preventDefault();
@@ -211,6 +253,7 @@ class Office {
   drag(event) {
     if (!event.dataTransfer.types.includes('Files')) return;
     event.preventDefault();
+    if (this.kiosk) return;
     for (const id of ['page', 'ear']) $(id).classList.toggle('over', event.type === 'dragover');
     if (event.type === 'drop') this.readFile(event.dataTransfer.files[0]);
   }
@@ -238,9 +281,11 @@ class Office {
   redraw() { for (const telephone of this.telephones) telephone.isStill = false; }
 
   // What the telephones do is told fifty times a second; where nothing moves, less often, until somebody does something.
+  // The keys of a sender go on here too, as a hidden tab has no pictures. A fault ends none of this.
   beat() {
-    this.move();
-    const rests = this.coming.length === 0 && this.standsStill();
+    guarded(() => this.move());
+    guarded(() => this.sender.move());
+    const rests = this.coming.length === 0 && this.sender.isIdle() && this.standsStill();
     this.beating = setTimeout(() => this.beat(), rests ? RESTS_MS : TOLD_EACH_MS);
   }
 
@@ -251,26 +296,29 @@ class Office {
 
   // Each thing that is due is done as at its own moment, with all that the telephones did before it.
   move() {
-    const now = this.clock.now();
+    this.clock.atOnce(() => this.moveUntil(this.clock.now()));
+    if (this.resting && !this.standsStill()) this.wake();
+  }
+
+  moveUntil(now) {
     for (let next = this.nextDue(now); next; next = this.nextDue(now)) {
       this.coming.splice(this.coming.indexOf(next), 1);
       this.clock.at(next.at, () => {
-        this.telephones.forEach((telephone) => telephone.move());
+        this.moveTelephones();
         next.what();
       });
     }
-    this.telephones.forEach((telephone) => telephone.move());
-    if (this.resting && !this.standsStill()) this.wake();
+    this.moveTelephones();
   }
+
+  moveTelephones() { for (const telephone of this.telephones) guarded(() => telephone.move()); }
 
   nextDue(now) {
     return this.coming.filter(({ at }) => at <= now).sort((one, other) => one.at - other.at)[0];
   }
 
   // No picture would be another one than the last.
-  standsStill() {
-    return this.sender.isIdle() && this.telephones.every((it) => it.top.hidden || it.standsStill());
-  }
+  standsStill() { return this.telephones.every((it) => it.top.hidden || it.standsStill()); }
 
   wake() {
     clearTimeout(this.resting);
@@ -282,16 +330,14 @@ class Office {
   // asked for at each frame of the screen.
   show() {
     this.resting = null;
-    if (lessMotion.matches) setTimeout(() => this.show(), RESTS_MS);
-    else if (this.standsStill()) this.resting = setTimeout(() => this.show(), RESTS_MS);
+    if (this.standsStill()) this.resting = setTimeout(() => this.show(), RESTS_MS);
+    else if (lessMotion.matches) setTimeout(() => this.show(), RESTS_MS);
     else requestAnimationFrame(() => this.show());
-    this.sender.move();
     for (const telephone of this.telephones) if (!telephone.top.hidden) telephone.show(this.colours);
   }
 
   begin() {
-    this.table.judge();
-    this.second.table.judge();
+    for (const table of [this.table, this.second.table]) table.begin(withAllCodes(table.text.defaultValue));
     this.listen();
     // nobody asked for what the page shows at first, so it is not said
     $('read').setAttribute('aria-live', 'off');
@@ -302,11 +348,11 @@ class Office {
     this.readExample();
     this.beat();
     this.show();
-    const { look, seconds } = lookAsked();
-    if (look) document.body.classList.add(look);
+    const { look, seconds } = lookAsked(location);
+    if (look) document.documentElement.classList.add(look);
     if (look === 'kiosk') this.kiosk = new Kiosk(this, seconds);
-    if (linkedNumber()) this.offer(linkedNumber());
-    else if (!lessMotion.matches && !location.hash.includes('quiet')) this.demonstrate();
+    this.follow();
+    if (!this.linked && !lessMotion.matches && !wordsOf(location).includes('quiet')) this.demonstrate();
   }
 
   // Whether calls are said to those who hear the page.
@@ -316,15 +362,15 @@ class Office {
     }
   }
 
-  // A link brought the visitor here to hear one call: sound wants a gesture first.
-  offer(number) {
-    $('linked').hidden = false;
-    $('linked-number').textContent = number;
-    $('hear').addEventListener('click', () => {
-      this.touched();
-      this.setSound(true);
-      this.telephones[0].dialNumber(number);
-    });
+  // A link may bring the visitor here to hear one call. Sound wants a gesture first, so the big button dials it.
+  follow() {
+    const { number, wrong } = linkAsked(location);
+    this.linked = number;
+    this.demonstrated = 0;
+    document.body.classList.toggle('linked', Boolean(number));
+    $('linked').hidden = !wrong;
+    $('linked').textContent = wrong && `The link asks for “${wrong}”. A number has one to ten digits, or letters of the dial.`;
+    this.nameCall();
   }
 }
 

@@ -22,6 +22,16 @@ class Refused extends Error {
   }
 }
 
+// What a deck comes to: its page, or its fault and what is told of it.
+async function pageOfDeck(wasm, bytes) {
+  try {
+    return { page: (await Reader.open(wasm)).page(bytes) };
+  } catch (fault) {
+    if (!(fault instanceof Refused)) throw fault;
+    return { fault: fault.message, told: fault.told };
+  }
+}
+
 class Reader {
   static async open(wasm) {
     return new Reader((await WebAssembly.instantiate(wasm, {})).instance.exports);
@@ -78,7 +88,7 @@ class Reader {
   // The table that a text writes, as the chain's module takes it, which says how many bytes it has. Throws its fault.
   table(text, length) {
     const bytes = new TextEncoder().encode(text);
-    if (/^---\r?$/m.test(text)) throw new Refused('a line --- ends a table');
+    if (/(^|\n)---\r?(\n|$)/.test(text)) throw new Refused('a line --- ends a table');
     const { text: at, count: place, room } = this.lay(bytes, length);
     const status = this.calls.mfpage_table(BigInt(at), BigInt(bytes.length), BigInt(room), BigInt(place));
     if (status === READ) return new Uint8Array(this.calls.memory.buffer.slice(room, room + length));

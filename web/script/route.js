@@ -1,6 +1,6 @@
 // The view of the route table: its routes, and the one that the module says decides a number.
 
-const MOST_SHOWN_ROUTES = 8;
+const MOST_SHOWN_ROUTES = 4;
 
 // A route in the words of its table.
 function routeText(route) {
@@ -21,15 +21,16 @@ class RouteView {
     this.clear();
   }
 
-  // The routes, and lit the one of this code.
+  // The routes, and lit the one of this code. Of many its neighbours are shown.
   light(code) {
     this.top.textContent = '';
-    this.routes.forEach((route, i) => {
-      const isTaken = route.code === code;
-      if (i >= MOST_SHOWN_ROUTES && !isTaken) return;
-      make('span', isTaken ? { class: 'taken' } : {}, this.top, routeText(route));
-    });
-    const more = this.routes.length - MOST_SHOWN_ROUTES;
+    const at = this.routes.findIndex((route) => route.code === code);
+    const from = Math.max(0, Math.min(at - 2, this.routes.length - MOST_SHOWN_ROUTES));
+    const shown = this.routes.slice(from, from + MOST_SHOWN_ROUTES);
+    for (const route of shown) {
+      make('span', route.code === code ? { class: 'taken' } : {}, this.top, routeText(route));
+    }
+    const more = this.routes.length - shown.length;
     if (more > 0) make('span', {}, this.top, `and ${more} more`);
   }
 

@@ -5,7 +5,8 @@
 const FREQUENCIES = [700, 900, 1100, 1300, 1500, 1700];
 const LANE_WEIGHTS = { 700: '0', 900: '1', 1100: '2', 1300: '4', 1500: '7', 1700: '' };
 const WIDEST_KEY = 92;
-const NARROWEST_PAIR = 58;
+const NARROWEST_PAIR = 72;
+const NOTHING_SENT = 'six of them, in Hz';
 
 const keysOf = (marks) => marks.filter((mark) => [Kind.DIGIT, Kind.KP, Kind.ST].includes(mark.kind));
 
@@ -32,15 +33,24 @@ class Sender {
 
   isIdle() { return !this.playing && this.waiting.length === 0; }
 
-  // It was taken by the next office before.
+  // The sound was turned on: a keying goes on with it.
+  resound() {
+    if (!this.playing) return;
+    const sounded = SAMPLES_A_MS * Math.floor(performance.now() - this.playing.began);
+    this.playing.silence = this.play(this.playing.samples.subarray(sounded));
+  }
+
+  // The last one was taken by the next office before.
   sendAgain() { if (this.last && !this.playing) this.waiting.push({ ...this.last, isAgain: true }); }
+
+  play(samples) { return this.sound.play(samples, this.noise > LOUD_NOISE ? NOISE_LEVEL : TONE_LEVEL); }
 
   clear() {
     this.waiting = [];
     this.playing?.silence();
     if (this.playing) this.end();
     this.last = null;
-    this.status.textContent = '';
+    this.status.textContent = NOTHING_SENT;
     this.far.textContent = 'nothing';
     this.draw([]);
   }
@@ -78,21 +88,21 @@ class Sender {
     const groups = this.draw(call.keys);
     keying.times.forEach((time, i) => { time.group = groups[i]; });
     const samples = noisy(this.samplesOf(keying), this.noise);
-    const silence = this.sound.play(samples);
+    const silence = this.play(samples);
     const trunk = call.isAgain ? null : this.second.trunk();
-    const hearing = { samples: wholeSamples(samples), ear: new Ear(this.module), sounded: 0, heard: [], trunk };
+    const hearing = { samples, whole: wholeSamples(samples), ear: new Ear(this.module), sounded: 0, heard: [], trunk };
     this.playing = { ...call, ...keying, ...hearing, silence, began: performance.now() };
   }
 
-  // Whoever hangs up hears no more of the call.
+  // Whoever hangs up hears no more of the call. Its trunk does.
   silence(name) { if (this.playing?.name === name) this.playing.silence(); }
 
   // The far end hears what has sounded so far.
   hearUntil(ms) {
-    const { samples, ear, sounded, heard, trunk } = this.playing;
-    const until = Math.min(samples.length, SAMPLES_A_MS * Math.floor(ms));
+    const { whole, ear, sounded, heard, trunk } = this.playing;
+    const until = Math.min(whole.length, SAMPLES_A_MS * Math.floor(ms));
     if (until <= sounded) return;
-    const keys = ear.hear(samples.subarray(sounded, until));
+    const keys = ear.hear(whole.subarray(sounded, until));
     heard.push(...keys);
     this.playing.sounded = until;
     trunk?.take(keys);
@@ -136,7 +146,9 @@ class Sender {
 
   // Draws the lanes and the keys; returns what was drawn of each key.
   draw(keys) {
-    const [width, height] = [Math.max(280, this.top.clientWidth || 600), this.top.clientHeight || 180];
+    const { clientWidth, clientHeight } = this.top;
+    const larger = largerBy();
+    const [width, height] = [Math.max(280, (clientWidth || 600) / larger), (clientHeight || 180) / larger];
     this.top.setAttribute('viewBox', `0 0 ${width} ${height}`);
     this.top.textContent = '';
     this.top.setAttribute('aria-label', keys.length ? `Keys: ${keys.map(keyName).join(' ')}` : 'No keys are sent');

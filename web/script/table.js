@@ -14,6 +14,12 @@ class TableField {
     this.text.addEventListener('input', () => this.typed());
   }
 
+  // Begins with a text.
+  begin(text) {
+    this.text.value = text;
+    this.judge();
+  }
+
   // A table is judged once its writer stops for a moment: else a fault would be read out for each letter.
   typed() {
     clearTimeout(this.typing);

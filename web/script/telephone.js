@@ -1,5 +1,12 @@
 // One telephone of the office: its hook and dial, its loop, and the register that listens to it.
 
+// How long a hand hangs up between two calls, and waits for the register; how long a shown call is seen after its end;
+// and after how long a whole number has its entry at the latest.
+const HANGS_MS = 450;
+const LISTENS_MS = 250;
+const SHOWN_MS = 2000;
+const WHOLE_MS = 1000;
+
 class Telephone {
   constructor(line, module, clock, office) {
     Object.assign(this, { line, module, clock, office, name: `Line ${line}` });
@@ -15,32 +22,30 @@ class Telephone {
     this.find('trace').setAttribute('aria-label', `Makes and breaks of the loop of line ${line} in the last seconds`);
     this.find('kind').setAttribute('aria-label', `How the dial of line ${line} is`);
     this.loop = new Loop(line, clock, module, this);
-    this.dial = new Dial(this.find('dial'), this.name, clock, this.loop, (digit) => this.ask(digit));
+    const hands = { tapped: (digit) => this.ask(digit), turned: () => this.turned() };
+    this.dial = new Dial(this.find('dial'), this.name, clock, this.loop, hands);
     this.trace = new Trace(this.find('trace'), clock);
     this.register = new RegisterView(this.find('relays'));
     this.find('hook').addEventListener('click', () => this.hangByHand(!this.isUp));
-    // a dial that is turned on the hook sends nothing, so the hook is pointed at
-    this.find('dial').addEventListener('pointerup', () => {
-      if (this.isUp || this.number) return;
-      this.find('hook').classList.add('wanted');
-      this.find('spoken').textContent = 'Nothing is sent: lift the receiver first';
-    });
-    this.find('kind').addEventListener('change', (event) => { this.dial.kind = event.target.value; });
+    this.find('share').addEventListener('click', () => office.keepsakes.copyLink(this));
+    this.find('kind').addEventListener('change', (event) => this.setKind(event.target.value));
     for (const button of this.top.querySelectorAll('[data-number]')) {
-      button.addEventListener('click', () => { office.touched(); this.dialNumber(button.dataset.number); });
+      button.addEventListener('click', () => { office.touched(); this.showCall(button.dataset.number); });
     }
     this.find('choice').addEventListener('change', () => office.choose(this));
     this.top.addEventListener('pointerdown', () => office.choose(this));
     this.isUp = false;
     this.number = null;    // what is to be dialled once the receiver is up
+    this.next = [];        // what a visitor asks for meanwhile of a shown call, and that follows it
+    this.isShown = false;  // its call is a shown one, which hangs up by itself
     this.toldAt = 0;
     this.isStill = false;  // its trace is drawn, and does not move
     this.showHook();
   }
 
-  // The words beside loop and register are folded where there is little room for them.
-  foldWords(isFolded) {
-    for (const words of this.top.querySelectorAll('.told')) words.open = !isFolded;
+  setKind(kind) {
+    this.dial.kind = kind;
+    this.find('kind').value = kind;
   }
 
   // Forgets what its line did: a line is known by one route table.
@@ -65,10 +70,18 @@ class Telephone {
     this.hang(isUp);
   }
 
-  hang(isUp) {
+  hang(isUp) { this.clock.atOnce(() => this.hangNow(isUp)); }
+
+  hangNow(isUp) {
+    // a receiver that is lifted from its hook begins a call, however the last one ended
+    this.dial.move();
+    this.loop.tell();
+    if (isUp && this.isOnHook()) this.clear();
     this.isUp = isUp;
     this.turn = {};        // whoever was to dial a number here, dials it no more
     this.number = null;
+    this.next = [];
+    this.isShown = false;
     this.loop.set('hook', isUp, this.clock.now());
     if (!isUp) {
       this.dial.asked = [];
@@ -83,26 +96,79 @@ class Telephone {
     hook.textContent = this.isUp ? 'Hang up' : 'Lift the receiver';
     hook.setAttribute('aria-label', `${hook.textContent}, line ${this.line}`);
     hook.classList.toggle('up', this.isUp);
-    hook.classList.remove('wanted');
   }
 
-  // A digit by a key or a tap. On the hook it lifts the receiver first: the wheel turns there, and sends nothing.
+  // A register listens here, or will: what is dialled now goes on with a call.
+  isInCall() { return this.number !== null || (this.isUp && !this.outcome); }
+
+  // A digit by a key or a tap. Where no call is under way it begins one; a shown call is not spoiled by it.
   ask(digit) {
+    this.office.touched();
+    if (this.next.length || (this.isShown && this.isInCall())) {
+      this.next.push(digit);
+      if (this.next.length === 1) this.follow();
+      return;
+    }
+    this.isShown = false;
     if (this.number) this.number.push(digit);
-    else if (this.isUp) this.dial.ask(digit);
+    else if (this.isInCall()) this.dial.ask(digit);
     else this.dialNumber(digit);
+  }
+
+  // What was asked for during a shown call: it begins another one, or goes on with a number that was not whole.
+  follow() {
+    const { next } = this;
+    const isDialled = !this.isMoved() && this.clock.now() > this.dial.restsUntil + WHOLE_MS;
+    if (!this.isInCall()) {
+      this.dialNumber(next);
+    } else if (isDialled) {
+      Object.assign(this, { next: [], isShown: false });
+      next.forEach((digit) => this.dial.ask(digit));
+    } else {
+      this.inTurn(100, () => this.follow());
+    }
+  }
+
+  // So does a dial that a hand turns: it is held until the register listens. A shown call ends there.
+  turned() {
+    this.office.touched();
+    if (!this.isInCall() || this.isShown) this.clock.atOnce(() => this.beginByHand());
+  }
+
+  beginByHand() {
+    const pause = this.isOnHook() ? 0 : HANGS_MS;
+    if (this.isUp) this.hang(false);
+    this.dial.heldUntil = this.clock.now() + pause + LISTENS_MS;
+    if (pause === 0) this.hang(true);
+    else this.inTurn(pause, () => this.hang(true));
+  }
+
+  // The office knows that its receiver is down.
+  isOnHook() { return !this.isUp && this.module.stateOf(this.line).phase === 0; }
+
+  // Has a call dialled that hangs up by itself once it is over, unless somebody does something here.
+  showCall(number) {
+    this.dialNumber(number);
+    this.isShown = true;
+  }
+
+  // What there is to see of its call is over.
+  isOver() {
+    if (this.isShown) this.inTurn(SHOWN_MS, () => { if (this.isShown) this.hang(false); });
   }
 
   // Hangs up if need be, and dials a number as a hand would. Digits that are asked for meanwhile follow it.
   dialNumber(number) {
-    const isIdle = this.module.stateOf(this.line).phase === 0 && !this.isUp;
+    const pause = this.isOnHook() ? 50 : HANGS_MS;
     this.hang(false);
     const digits = [...number];
     this.number = digits;
-    this.inTurn(isIdle ? 50 : 450, () => this.onceAtRest(() => {
+    this.inTurn(pause, () => this.onceAtRest(() => {
+      const { isShown, next } = this;
       this.hang(true);
-      this.number = digits;
-      this.inTurn(250, () => {
+      Object.assign(this, { number: digits, isShown, next });
+      if (next.length) this.follow();
+      this.inTurn(LISTENS_MS, () => {
         this.number = null;
         digits.forEach((digit) => this.dial.ask(digit));
       });
@@ -125,8 +191,9 @@ class Telephone {
 
   changed(at, closed) {
     this.trace.changed(at, closed);
-    this.office.clicked(closed);
-    if (!closed && this.isUp) this.office.explain.at('looping');
+    this.office.reach(this.find('looping'));
+    guarded(() => this.office.clicked(closed, at));
+    if (!closed && this.isUp) this.office.explain.broke();
   }
 
   rowTaken(row) {
@@ -136,34 +203,39 @@ class Telephone {
     if (row.signals.some((signal) => signal.kind === Signal.SEIZED)) {
       this.clear();
       this.attempt = new Attempt(row.from);
-      this.office.seized(this);
+      guarded(() => this.office.seized(this));
     }
-    this.attempt?.add(row);
+    guarded(() => this.attempt?.add(row));
     row.signals.forEach((signal) => this.told(signal, row));
   }
 
-  // What the register was told.
+  // What the register was told. It is kept before it is drawn.
   told(signal, { digit, listens, at }) {
     const words = { [Signal.SEIZED]: 'seized', [Signal.TIMED_OUT]: 'time-out', [Signal.RELEASED]: 'released' };
+    // while people talk no time is out
+    if (signal.kind === Signal.TIMED_OUT && this.outcome) return;
     if (signal.kind !== Signal.DIGIT) {
-      this.trace.note(words[signal.kind] ?? '', signal.kind === Signal.TIMED_OUT ? 'bad' : '', at);
+      this.note(words[signal.kind] ?? '', signal.kind === Signal.TIMED_OUT ? 'bad' : '', at);
       return;
     }
     const { elements } = signal;
     const dialled = { figure: figureOf(digit), isSpoiled: digit === SPOILED, elements };
-    this.attempt?.digit(dialled, this.module.limitsInUse());
+    if (listens) this.digits.push(dialled);
+    guarded(() => this.attempt?.digit(dialled, this.module.limitsInUse()));
     if (!listens) {
-      this.trace.note('not heard', '', at);
+      this.note('not heard', '', at);
       return;
     }
-    this.digits.push(dialled);
+    this.office.reach(this.find('registering'));
     this.office.explain.at('registering');
-    this.trace.note(dialled.isSpoiled ? 'spoiled' : dialled.figure, dialled.isSpoiled ? 'bad' : 'digit', at);
+    this.note(dialled.isSpoiled ? 'spoiled' : dialled.figure, dialled.isSpoiled ? 'bad' : 'digit', at);
   }
+
+  note(...words) { guarded(() => this.trace.note(...words)); }
 
   entryGiven(text, marks) {
     this.outcome = isRefusal(marks[0]) ? 'refused' : 'complete';
-    this.attempt?.end(marks[0].kind);
+    guarded(() => this.attempt?.end(marks[0].kind));
     this.office.entryGiven(this, text, marks);
     this.attempt = null;
   }
@@ -172,11 +244,11 @@ class Telephone {
 
   // ---- its look
 
-  // Nothing happens on its line, and nothing is to come.
-  isAtRest() {
-    const isWaiting = this.number || this.dial.isBusy() || this.dial.asked.length || this.loop.coming.length;
-    return !this.isUp && !isWaiting && this.module.stateOf(this.line).phase === 0;
-  }
+  // Its dial or its hook moves, or is to move.
+  isMoved() { return this.number || this.dial.isBusy() || this.dial.asked.length || this.loop.coming.length; }
+
+  // Nothing is to come on its line, however long that takes.
+  isAtRest() { return !this.isMoved() && (this.isUp ? this.outcome !== '' : this.isOnHook()); }
 
   // A line that rests is told of once a second.
   move() {
@@ -188,12 +260,14 @@ class Telephone {
     this.showState();
   }
 
-  // What is shown of it is drawn, and nothing on it moves.
-  standsStill() { return this.isStill && this.isAtRest(); }
+  // The next picture of it would be as the last one: all that happened has left its trace, or time is halted.
+  isQuiet() { return this.clock.pace === 0 ? !this.dial.drag : !this.isMoved() && this.trace.isEmpty(); }
+
+  standsStill() { return this.isStill && this.isQuiet(); }
 
   show(colours) {
     this.dial.show();
-    const isStill = this.isAtRest() && this.trace.isEmpty();
+    const isStill = this.isQuiet();
     if (!isStill || !this.isStill) this.trace.draw(colours);
     this.isStill = isStill;
   }
@@ -208,10 +282,12 @@ class Telephone {
 
   showState() {
     const state = this.module.stateOf(this.line);
+    if (state.breaks > 0) this.office.reach(this.find('registering'));
     const now = [state.phase, state.attempt, state.breaks, this.outcome, this.digits.length].join();
     if (now === this.shown) return;
     this.shown = now;
-    this.find('phase').textContent = PHASES[state.phase];
+    const isTalked = state.phase === TIMED_OUT_PHASE && this.outcome === 'complete';
+    this.find('phase').textContent = PHASES[isTalked ? CLOSED_PHASE : state.phase];
     const heard = this.find('heard');
     const words = this.outcome || ATTEMPTS[state.attempt];
     if (heard.textContent !== words) heard.textContent = words;

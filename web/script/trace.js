@@ -39,9 +39,10 @@ class Trace {
 
   draw(colours) {
     const { canvas } = this;
-    const ratio = devicePixelRatio || 1;
-    const [width, height] = [canvas.clientWidth, canvas.clientHeight];
-    if (width === 0) return;
+    if (canvas.clientWidth === 0) return;
+    const larger = largerBy();
+    const ratio = (devicePixelRatio || 1) * larger;
+    const [width, height] = [canvas.clientWidth / larger, canvas.clientHeight / larger];
     if (canvas.width !== Math.round(width * ratio) || canvas.height !== Math.round(height * ratio)) {
       canvas.width = Math.round(width * ratio);
       canvas.height = Math.round(height * ratio);
@@ -72,7 +73,7 @@ class Trace {
       pen.stroke();
     }
     pen.fillStyle = colours.soft;
-    pen.font = '11px system-ui, sans-serif';
+    pen.font = '12px system-ui, sans-serif';
     pen.textAlign = 'left';
     pen.fillText('made', 2, y(true) + 4);
     pen.fillText('broken', 2, y(false) + 4);
@@ -101,7 +102,7 @@ class Trace {
     for (const { text, kind, at } of this.notes) {
       if (at < from) continue;
       pen.fillStyle = kind === 'bad' ? colours.red : kind === 'digit' ? colours.lamp : colours.soft;
-      pen.font = kind === 'digit' ? 'bold 14px system-ui, sans-serif' : '11px system-ui, sans-serif';
+      pen.font = kind === 'digit' ? 'bold 14px system-ui, sans-serif' : '12px system-ui, sans-serif';
       const wide = pen.measureText(text).width;
       const middle = Math.max(TRACE_LEFT + wide / 2, Math.min(width - wide / 2 - 2, x(at)));
       if (middle - wide / 2 < free) continue;

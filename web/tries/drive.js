@@ -8,24 +8,27 @@ const { CallTries } = require('./calls.js');
 const { tryChance } = require('./chance.js');
 const { is, end } = require('./checks.js');
 const { tryDecks, tryLongDeck } = require('./dropped.js');
+const { tryAlive } = require('./alive.js');
 const { tryFirst } = require('./first.js');
+const { tryHeard } = require('./heard.js');
 const { tryKept } = require('./kept.js');
 const { tryRecordings, tryMicrophone } = require('./recorded.js');
 const { tryNames, tryKeysAlone, tryOpening, tryPhone, tryLessMotion, takePictures } = require('./looks.js');
 const { tryNext } = require('./next.js');
 const { tryShown } = require('./shown.js');
+const { tryRoutes } = require('./routes.js');
 const { TapeTry } = require('./tape.js');
 const { tryTree } = require('./tree.js');
 const { Visitor } = require('./visitor.js');
 
 const [, , file, examples, mfbank, mfhear, pictures] = process.argv;
 const read = (name) => fs.readFileSync(path.join(examples, name));
-const table = read('routes.toml').toString().trimEnd();
 
 async function tryAll(it) {
   await it.open(path.join(examples, 'seven_digits.wav'));
   await it.look();
   await it.visit('#quiet');
+  const table = await it.table();
   await it.listen();
   const tape = new TapeTry(it, { mfbank, mfhear });
   const calls = new CallTries(it, tape, read);
@@ -49,6 +52,9 @@ async function tryAll(it) {
   await tryKeysAlone(it);
   await tryOpening(it);
   await tryFirst(it);
+  await tryAlive(it);
+  await tryHeard(it);
+  await tryRoutes(it);
   await tryKept(it, read, mfbank);
   await tryShown(it);
   await tryPhone(it);

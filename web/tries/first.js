@@ -8,13 +8,6 @@ const { BY_OPERATOR } = require('./calls.js');
 const BY_411 = 'KEYED 0003 KP:1100+1700 4:700+1300 1:700+900 1:700+900 ST:1500+1700';
 const MOMENTS = 20;
 
-// Runs the page once with a script of ours before its own, until this is so.
-async function visitWith(it, source, isReady = 'document.querySelector(".dial .hole") !== null') {
-  const { identifier } = await it.send('Page.addScriptToEvaluateOnNewDocument', { source });
-  await it.load('#quiet', isReady);
-  await it.send('Page.removeScriptToEvaluateOnNewDocument', { identifier });
-}
-
 const kinds = (entries) => entries.map((entry) => entry.split(' ').slice(2).join(' '));
 
 // A number's button at many moments of a dial that runs back.
@@ -42,10 +35,14 @@ async function tryHook(it) {
   await it.dial('411');
   await it.untilEntries(1);
   is('digits on the hook lift the receiver first', kinds(await it.entries()), [BY_411]);
+  is('a key is a gesture, and turns the sound on', await it.isSounding(), true);
   await it.click('#sound');
   await it.key(' ');
   await it.until('document.querySelector(".phase").textContent === "on hook"');
-  is('after a click the space bar is the hook', await it.run('document.getElementById("sound").ariaPressed'), 'true');
+  is('after a click the space bar is the hook', await it.isSounding(), false);
+  await it.click('.hook');
+  is('sound that was turned off stays off', await it.isSounding(), false);
+  await it.hangUp();
   await it.run('document.getElementById("keys").click()');
   await it.dial('0');
   await sleep(600);
@@ -62,13 +59,12 @@ const COUNT_STOPS = `
   AudioBufferSourceNode.prototype.stop = function (...words) { playing.delete(this); return stop.apply(this, words); };`;
 
 async function trySilence(it) {
-  await visitWith(it, COUNT_STOPS);
-  await it.click('#sound');
+  await it.visitWith(COUNT_STOPS);
   for (const [what, silence] of [['"Sound" silences at once', () => it.click('#sound')],
     ['so does hanging up', () => it.hangUp()]]) {
     await it.run('[...document.querySelectorAll(".hook.up")].forEach((hook) => hook.click())');
     await sleep(600);
-    if (await it.run('document.getElementById("sound").ariaPressed === "false"')) await it.click('#sound');
+    if (!await it.isSounding()) await it.click('#sound');
     await it.click('[data-number="2345678"]');
     await it.until('playing.size > 0');
     await silence();
@@ -95,7 +91,7 @@ async function callGoesOn(it, what) {
 }
 
 async function tryLacking(it) {
-  await visitWith(it, 'window.AudioContext = function () { throw new Error("no sound card"); };');
+  await it.visitWith('window.AudioContext = function () { throw new Error("no sound card"); };');
   await callGoesOn(it, 'without WebAudio a call is keyed');
   is('and the button says that there is no sound', await it.text('#sounds'), 'is not to be had here');
   await it.visit('#quiet');
@@ -104,7 +100,11 @@ async function tryLacking(it) {
   await callGoesOn(it, 'a picture that fails loses no entry');
   const said = it.messages.splice(0).filter((text) => !/a picture that fails/.test(text));
   is('and says so in the console alone', said, []);
-  await visitWith(it, 'delete window.WebAssembly;', '!document.getElementById("lacking").hidden');
+  await it.visitWith('delete window.Worker;');
+  await sleep(1000);     // the example is read first
+  await it.drop('short.deck', '---\nline,state,ms\n7,M,600\n');
+  is('without workers a deck is read', await it.text('#page'), '0007 1 REFUSED ABANDONED 0\nKEYED 0 REFUSED 1\n');
+  await it.visitWith('delete window.WebAssembly;', '!document.getElementById("lacking").hidden');
   const enabled = await it.run(`document.querySelectorAll('main button:enabled, main select:enabled').length`);
   is('without WebAssembly no control is offered', enabled, 0);
   is('and no copy is claimed', await it.run('document.getElementById("copy").hidden'), true);
@@ -118,26 +118,45 @@ const HIDE = `
   window.requestAnimationFrame = () => 0;`;
 
 async function tryHidden(it) {
-  await visitWith(it, HIDE);
+  await it.visitWith(HIDE);
   await it.choose('#pace', '20');
   await it.click('[data-number="2345678"]');
   await it.untilEntries(1, 8000);
   const [entry] = await it.entries();
   is('a hidden tab, 20 times as fast, loses no time', /^0007 1 KEYED 0017 /.test(entry), true);
+  await it.until('document.querySelector("#entries .far")', 8000).catch(() => {});
+  is('and what is keyed there sounds', await it.text('#entries .far'), 'The far end heard KP 5 6 5 6 7 8 ST');
 }
 
-const SCREENS = [[1280, 720, ['.dial', '.hook', '#tones', '#far']], [1280, 900, ['.dial', '.hook', '#tones', '#far']],
-  [390, 844, ['.dial', '.hook']], [320, 568, ['.dial', '.hook']]];
+// What stands on the first screen: the dial, the tones and the button; on a desk whatever a call reaches, too.
+const FIRST = ['#demo', '.dial', '#tones'];
+const REACHED = [...FIRST, '.hook', '#far', '.trace', '.relays', '#route'];
+const SCREENS = [[1280, 720, REACHED], [1280, 900, REACHED], [1920, 1080, REACHED],
+  [2560, 1440, REACHED], [1024, 768, FIRST], [820, 1180, [...FIRST, '.hook', '#far']], [768, 1024, FIRST],
+  [390, 844, [...FIRST, '.hook']], [360, 740, ['#demo', '.dial', '.hook']], [320, 568, ['#demo', '.dial']],
+  [844, 390, FIRST]];
+const LEAST_HOLE = 44;
 
 async function tryFirstScreen(it) {
   for (const [width, height, wanted] of SCREENS) {
     await it.look({ width, height });
     await it.visit('#quiet');
-    const seen = await it.run(`${JSON.stringify(wanted)}.filter((name) => {
-      const box = document.querySelector(name).getBoundingClientRect();
-      return box.top >= 0 && box.bottom <= ${height};
-    })`);
-    is(`on the first screen of ${width} by ${height}`, seen, wanted);
+    const seen = `${JSON.stringify(wanted)}.filter((name) => {
+      const it = document.querySelector(name);
+      const box = it.getBoundingClientRect();
+      return box.height > 0 && box.top >= 0 && box.bottom <= ${height};
+    })`;
+    const hole = await it.run('document.querySelector(".hole").getBoundingClientRect().width');
+    if (width >= 390 && height > 390) is(`a hole of ${hole.toFixed(0)} pixels`, hole >= LEAST_HOLE, true);
+    const alone = `[...document.querySelectorAll('.stage, .stage .told')].filter((it) => {
+      return it.id !== 'sending' && it.checkVisibility({ visibilityProperty: true, checkVisibilityCSS: true });
+    }).length`;
+    is(`at first of ${width} by ${height} no other stage is seen`, await it.run(alone), 0);
+    await it.click('[data-number="2345678"]');
+    await it.run('scrollTo(0, 0)');
+    await it.until('document.querySelector("#entries .far")');
+    is(`on the first screen of ${width} by ${height}`, await it.run(seen), wanted);
+    is('and each stage that was reached has its words', await it.run(alone), 7);
   }
   await it.look();
 }
@@ -151,7 +170,7 @@ const MOST_SHARE = 0.02;
 
 // The page at rest asks for no picture at each frame of the screen, and moves once it is touched.
 async function tryRest(it) {
-  await visitWith(it, COUNT_PICTURES);
+  await it.visitWith(COUNT_PICTURES);
   await it.click('[data-number="411"]');
   await it.untilEntries(1, 8000);
   await it.hangUp();

@@ -4,8 +4,17 @@ const { execFileSync } = require('child_process');
 const { is } = require('./checks.js');
 const { sleep } = require('./browser.js');
 
-const LINKS = [['2345678', '2345678'], ['PE6-5000', '7365000'], ['%20(234)%20567.8', '2345678'], ['23456789012', ''],
-  ['23x*', ''], ['', '']];
+// What stands behind a page's address; the number that the big button then dials, or what is said of the link.
+const OPENS = 'Dial 411, and listen';
+const LINKS = [
+  ['#quiet,dial=2345678', '234 5678'], ['#quiet,dial=PE6-5000', '736 5000'], ['#quiet,dial=0', '0'],
+  ['#dial=%20(234)%20567.8', '234 5678'], ['#dial=234+5678&quiet', '234 5678'], ['?dial=411#quiet', '411'],
+  ['#dial=1-212-555-1234', '212 555 1234'], ['#quiet,dial=', '', ''], ['#quiet', '', ''],
+  ['#quiet,dial=23456789012', '', '23456789012'], ['#quiet,dial=23x*', '', '23x*'], ['#quiet,dial=%', '', '%'],
+  ['#quiet,dial=%E0%A4%A', '', '%E0%A4%A'],
+];
+const SIZES = [[320, 568], [360, 740], [390, 844], [768, 1024], [820, 1180], [844, 390], [1024, 768], [1280, 720],
+  [1280, 900], [1920, 1080], [2560, 1440]];
 
 // Keeps what is saved in place of handing it to the browser.
 const KEEP = `window.saved = [];
@@ -13,22 +22,40 @@ const KEEP = `window.saved = [];
     : [...new Uint8Array(content)] });`;
 
 async function tryLinks(it) {
-  for (const [text, number] of LINKS) {
-    await it.visit(`#quiet,dial=${text}`);
-    const offered = await it.run(`document.getElementById('linked').hidden ? '' :
-      document.getElementById('linked-number').textContent`);
-    is(`a link that dials ${decodeURIComponent(text) || 'nothing'}`, offered, number);
+  for (const [address, number, wrong = ''] of LINKS) {
+    await it.visit(address);
+    const words = number ? `Hear this call: ${number}` : OPENS;
+    const said = wrong && `The link asks for “${wrong}”. A number has one to ten digits, or letters of the dial.`;
+    is(`a link ${address}`, [await it.text('#demo-words'), await it.text('#linked')], [words, said]);
   }
   await it.visit('#dial=411');
   await sleep(1500);
   is('nothing is dialled before it is asked for', await it.entries(), []);
-  await it.click('#hear');
+  await it.click('#demo');
   await it.untilEntries(1);
   is('and then it is', /KP:1100\+1700 4:700\+1300 1/.test(await it.text('#entries code')), true);
   await it.run('navigator.clipboard.writeText = async (text) => { window.copied = text; }');
-  await it.click('#link');
+  await it.click('.share');
   await it.until('window.copied');
   is('its link is copied', await it.run('copied.replace(/.*#/, "#")'), '#dial=411');
+  await it.run('location.hash = "#dial=0"');
+  await it.until('/: 0$/.test(document.getElementById("demo-words").textContent)');
+  await it.click('#demo');
+  await it.untilEntries(2);
+  is('one that is followed in the open page is heard', / KEYED 0001 /.test((await it.entries())[1]), true);
+}
+
+// Whoever follows a link sees its button, and where the tones will be.
+async function tryLinkedScreens(it) {
+  for (const [width, height] of SIZES) {
+    await it.look({ width, height });
+    for (const address of ['#dial=PE6-5000', '#dial=PE6-5000,embed', '#dial=PE6-5000,kiosk']) {
+      await it.visit(address);
+      const { bottom, top, right } = await it.run('document.getElementById("demo").getBoundingClientRect().toJSON()');
+      is(`${address} is seen at ${width} by ${height}`, top >= 0 && bottom <= height && right <= width, true);
+    }
+  }
+  await it.look();
 }
 
 // Of 234 5678 the sound is the one that mftone writes. A second call is under way when the deck is saved.
@@ -58,6 +85,7 @@ async function compareDeck(it, mfbank, what) {
 
 async function tryKept(it, read, mfbank) {
   await tryLinks(it);
+  await tryLinkedScreens(it);
   await trySaved(it, read, mfbank);
   await it.visit('#quiet');
 }

@@ -8,13 +8,12 @@ const { BY_OPERATOR } = require('./calls.js');
 
 const CONTROLS = ['button', 'link', 'textbox', 'combobox', 'radio', 'checkbox', 'progressbar', 'image', 'log', 'region',
   'Canvas', 'DisclosureTriangle'];
-const TABBED = ['demo', 'sound', 'row', 'pace', 'keys', 'Dial 1 on line 7', 'Lift the receiver, line 7',
+const TABBED = ['demo', 'explain', 'sound', 'row', 'pace', 'keys', 'Dial 1 on line 7', 'Hang up, line 7',
   'noise', 'recording', 'microphone', 'heard', 'second-routes', 'second-roll', 'routes', 'file', 'example', 'roll',
   'page'];
 
 async function tryNames(it) {
-  const { nodes } = await it.send('Accessibility.getFullAXTree');
-  const seen = nodes.filter((node) => !node.ignored);
+  const seen = (await it.tree()).filter((node) => !node.ignored);
   const nameless = (some) => some.filter((node) => !node.name?.value).map((node) => node.role.value);
   const controls = seen.filter((node) => CONTROLS.includes(node.role?.value));
   is(`all ${controls.length} controls have names`, nameless(controls), []);
@@ -23,12 +22,15 @@ async function tryNames(it) {
   is('so has all that takes the keys', nameless(focusable), []);
   const live = await it.run(`[...document.querySelectorAll('[role=log], [role=alert], [role=status]')]
     .map((it) => it.id)`);
-  const wanted = ['lacking', 'roll', 'kept', 'listening', 'heard', 'second-fault',
+  const wanted = ['lacking', 'linked', 'roll', 'kept', 'listening', 'heard', 'second-fault',
     'second-places', 'second-roll', 'fault', 'places', 'read', 'deck-places'];
   is('the tape, what is heard and the faults are live', live, wanted);
 }
 
 async function tryKeysAlone(it) {
+  // the trunk's noise is chosen once a call has reached it
+  await it.dial('0');
+  await it.until('document.querySelector("#sending.reached")');
   await it.run('document.activeElement.blur(); scrollTo(0, 0)');
   const seen = new Set();
   for (let i = 0; i < 60; i++) {
@@ -69,7 +71,6 @@ async function tryPhone(it) {
   await it.look({ width: 390, height: 844 });
   await it.send('Emulation.setTouchEmulationEnabled', { enabled: true });
   await it.visit('#quiet');
-  is('the words beside loop and register are folded', (await it.texts('.told[open]')).length, 0);
   await it.lift();
   await it.turnByFinger('0', 330);
   await it.untilEntries(1);

@@ -64,8 +64,8 @@ async function tryBrowser(name, it, file, decks, wanted) {
   await it.until('document.querySelectorAll("#second-entries li").length >= 2');
   const onward = await it.run('[...document.querySelectorAll("#second-entries code")].map((it) => it.textContent)');
   const [line] = printedByB();
-  is(`234 5678 goes on in the next office, and 0 has no route there, in ${name}`, onward,
-    ['0000 1 REFUSED UNKNOWN 1', line.replace('0000 1', '0000 2')]);
+  is(`0 and 234 5678 go on in the next office, in ${name}`, onward,
+    ['0000 1 KEYED 0001 KP:1100+1700 0:1300+1500 ST:1500+1700', line.replace('0000 1', '0000 2')]);
   await it.run(KEEP_SAVED);
   const given = [];
   for (let at = 0; at < decks.length; at += AT_ONCE) {

@@ -43,13 +43,14 @@ async function tryCall(it, module) {
   is('with its totals', await it.text('#second-totals'), totals);
   is('its route is lit', await it.texts('#second-route .taken'), ['565 → trunk 30, delete 2, prefix 7']);
   await it.until('document.querySelector("#entries li:last-child .far")');
-  await it.click('#sound');
+  await it.run('sounds.length = 0');
+  await it.soundAgain();
   await it.until('sounds.some((sound) => sound.length > 1000)');
   await it.until('/sent/.test(document.getElementById("keying").textContent)');
   is('a call that sounds once more is no other one', await entriesOf(it), [line]);
   await it.run('sounds.length = 0');
   await it.click('#second-entries button');
-  const sound = await it.run('sounds[0].map((sample) => sample * 32768)');
+  const sound = await it.run('sounds.find((sound) => sound.length > 1000).map((sample) => sample * 32768)');
   const ear = new Ear(module);
   is('it sounds on', heardText([...ear.hear(Int16Array.from(sound)), ...ear.end()]), 'KP 7 5 6 7 8 ST');
   await it.hangUp();

@@ -66,6 +66,19 @@ function tryRows(chain) {
 
 // ---- refusals: the first reason is told, and nothing has changed
 
+const NO_TONE = 'the frequencies are not 0 to 65535, or the samples not 0 to 80000';
+const NO_DECK = 'a deck is a text or a Uint8Array';
+const NO_KEY = 'it is no key of an ear';
+// A table that is refused, or taken. A comment may have what some scripts take for the end of a line.
+const TABLES = [
+  [undefined, 'a table is a text'],
+  [`${'[[route]]'}\ncode = "0"\ntrunk = 1\n---\n`, 'a line --- ends a table'],
+  ['---', 'a line --- ends a table'],
+  ['#\n---\r\n', 'a line --- ends a table'],
+  ['# \u2028---\u2028', 'taken'],
+  ['# \u2029---', 'taken'],
+];
+
 const REFUSALS = [
   [(chain) => chain.take(10000, 'X', -1), 'the line is not 0 to 9999'],
   [(chain) => chain.take(2 ** 32, 'M', 1), 'the line is not 0 to 9999'],
@@ -83,14 +96,37 @@ const REFUSALS = [
   [(chain) => chain.seize(9), 'the record of the line has ended'],
   [(chain) => chain.route('23456'), 'the digits complete no number'],
   [(chain) => chain.route('23x'), 'the digit is not 0 to 9'],
+  [(chain) => chain.take(7, 5, 100), 'the state is not M, B or C'],
+  [(chain) => chain.take(7, undefined, 100), 'the state is not M, B or C'],
+  [(chain) => chain.digit(8), 'the digit is not 0 to 9'],
+  [(chain) => chain.route(411), 'the digit is not 0 to 9'],
+  [(chain) => chain.tone(700.5, 900, 80), NO_TONE],
+  [(chain) => chain.tone('700', 900, 80), NO_TONE],
+  [(chain) => chain.tone(700, -1, 80), NO_TONE],
+  [(chain) => chain.tone(undefined, 900, 80), NO_TONE],
+  [(chain) => chain.tone(700, 900, 80001), NO_TONE],
+  [(chain) => chain.page(), NO_DECK],
+  [(chain) => chain.page(new ArrayBuffer(5)), NO_DECK],
+  [(chain, { Ear }) => new Ear(chain).hear([1, 2, 3]), 'the samples are no Int16Array or Float32Array'],
+  [(chain, { Ear }) => new Ear({}), 'it is no chain'],
+  [(chain, { Register }) => new Register(), 'it is no chain'],
+  [(chain, { Register }) => new Register(chain).take(), NO_KEY],
+  [(chain, { Register }) => new Register(chain).take({ key: '5', from: 7, until: 600 }), NO_KEY],
 ];
 
-function tryRefusals(chain, Refused) {
+async function tryTables(open, Refused) {
+  for (const [table, wanted] of TABLES) {
+    const said = await open(table).then(() => 'taken', (fault) => (fault instanceof Refused ? fault.message : fault));
+    is(`a table ${JSON.stringify(table)}`, said, wanted);
+  }
+}
+
+function tryRefusals(chain, { Refused, ...classes }) {
   lastOf(chain, [lift, ...digit(2)]);
   chain.take(9, 'C', 0);
   for (const [call, words] of REFUSALS) {
     let said = 'it was taken';
-    try { call(chain); } catch (fault) { said = fault instanceof Refused ? fault.message : fault; }
+    try { call(chain, classes); } catch (fault) { said = fault instanceof Refused ? fault.message : fault; }
     is(`refused: ${words}`, said, words);
   }
   const { entry } = [...[3, 4, 5, 6, 7, 8].flatMap(digit)].map((row) => chain.take(7, ...row)).find((row) => row.entry);
@@ -98,6 +134,30 @@ function tryRefusals(chain, Refused) {
   is('and the line goes on', entry, `0007 1 KEYED 0017 ${keys}`);
   const { code, marks } = chain.route('411');
   is('411 by no line', [code, marks.map(({ kind, value }) => value ?? kind).join(' ')], ['411', '3 KP 4 1 1 ST']);
+}
+
+// ---- the lamps of a row stay its own, and a row is quick
+
+const MOST_NANOSECONDS = 2500;
+
+function tryLamps(chain) {
+  const first = lastOf(chain, [lift, ...digit(2)]);
+  for (const row of [...digit(3), ...digit(4)]) chain.take(7, ...row);
+  const seen = [first, JSON.parse(JSON.stringify(first))].map(({ lamps }) => lamps.digits.map((it) => it.digit).join(''));
+  is('the lamps of a row, asked for later', seen, ['2', '2']);
+}
+
+// The least of many short runs, since a machine does other things too.
+function tryQuick(chain) {
+  chain.reopen(7);
+  const rows = [lift, ...[2, 3, 4, 5, 6, 7, 8].flatMap(digit), ['B', 400]];
+  let least = Infinity;
+  for (let run = 0; run < 2000; run++) {
+    const began = process.hrtime.bigint();
+    for (let i = 0; i < 4; i++) for (const [state, ms] of rows) chain.take(7, state, ms);
+    least = Math.min(least, Number(process.hrtime.bigint() - began) / (4 * rows.length));
+  }
+  is(`${least.toFixed(0)} ns a row of calls`, least < MOST_NANOSECONDS, true);
 }
 
 // ---- the layout: each field begins where C has it, with nothing between two
@@ -142,8 +202,11 @@ const TAKEN = [
 function trySounds(chain, { Ear, Register }) {
   for (const [names, wanted] of TAKEN) {
     const [ear, register] = [new Ear(chain), new Register(chain)];
-    const keys = names.split(' ').flatMap((name) => {
-      return [chain.tone(...KEYS[name], KEY_SAMPLES), new Int16Array(KEY_SAMPLES)].flatMap((samples) => ear.hear(samples));
+    const keys = names.split(' ').flatMap((name, i) => {
+      const tone = chain.tone(...KEYS[name], KEY_SAMPLES);
+      // a browser has samples from -1 to 1
+      const samples = i % 2 ? tone : Float32Array.from(tone, (sample) => sample / 32768);
+      return [samples, new Int16Array(KEY_SAMPLES)].flatMap((part) => ear.hear(part));
     });
     const given = [...[...keys, ...ear.end()].flatMap((key) => register.take(key)), ...register.end()];
     const words = given.map(({ entry }) => entry.replace(/:[0-9]+[+][0-9]+/g, ''));
@@ -153,10 +216,13 @@ function trySounds(chain, { Ear, Register }) {
 
 async function tryTaken(file) {
   const { open, Refused, Ear, Register } = await import(pathToFileURL(path.resolve(file)));
+  await tryTables(open, Refused);
   const chain = await open(TABLE);
   tryRows(chain);
-  tryRefusals(chain, Refused);
+  tryRefusals(chain, { Refused, Ear, Register });
   trySounds(chain, { Ear, Register });
+  tryLamps(chain);
+  tryQuick(chain);
   is('the layout is that of C', sizesOf(chain.module.memory), 5 + 15);
 }
 

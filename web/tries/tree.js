@@ -29,7 +29,7 @@ class Tree {
   }
 }
 
-const treeOf = async (it) => new Tree((await it.send('Accessibility.getFullAXTree')).nodes);
+const treeOf = async (it) => new Tree(await it.tree());
 
 // No level is left out on the way down.
 function headingsOf(tree) {

@@ -29,6 +29,13 @@ class Visitor extends Browser {
 
   load(hash, isReady) { return this.go(`${this.file}${hash}`, isReady); }
 
+  // The page with a script of ours before its own, until this is so.
+  async visitWith(source, isReady = 'document.querySelector(".dial .hole") !== null') {
+    const { identifier } = await this.send('Page.addScriptToEvaluateOnNewDocument', { source });
+    await this.load('#quiet', isReady);
+    await this.send('Page.removeScriptToEvaluateOnNewDocument', { identifier });
+  }
+
   listen() { return this.run(LISTEN); }
 
   // ---- what is seen
@@ -50,7 +57,19 @@ class Visitor extends Browser {
       .filter((bits) => bits !== '00000')`);
   }
 
+  isSounding() { return this.run('document.getElementById("sound").ariaPressed === "true"'); }
+
+  // The route table of the first office.
+  table() { return this.run('document.getElementById("routes").value.trimEnd()'); }
+
   untilNumber(number) { return this.until(`document.querySelector('.number').textContent === '${number}'`); }
+
+  // What a screen reader has of the page. Of the tables' texts it is a line: the nodes of the others are more bytes
+  // than Node takes in one message.
+  async tree() {
+    await this.run('for (const it of document.querySelectorAll("textarea")) it.value = it.value.split("\\n")[0]');
+    return (await this.send('Accessibility.getFullAXTree')).nodes;
+  }
 
   // ---- what one does
 
@@ -61,8 +80,15 @@ class Visitor extends Browser {
     await this.key(' ');
   }
 
+  // A shown call hangs up by itself.
+  // Has the last keying sound once more.
+  async soundAgain() {
+    if (await this.isSounding()) await this.click('#sound');
+    await this.click('#sound');
+  }
+
   async hangUp() {
-    await this.lift();
+    await this.run('document.querySelector(".chosen .hook.up")?.click()');
     await this.until('document.querySelector(".phase").textContent === "on hook"');
   }
 

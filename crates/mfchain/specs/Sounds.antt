@@ -5,16 +5,7 @@ use Rattle.xb_structs.specs.EntryLines.{IsKind, mark_in}
 use Rattle.xb_sound.specs.declared.cadence.Cadence.{Cadence}
 use Rattle.xb_sound.specs.Cadences.{IsLawful}
 use Rattle.xb_sound.specs.Sounds.{mark_sound}
-use Rattle.mfchain.specs.declared.sounds.PlainCadence.{PlainCadence}
 use Rattle.mfchain.specs.declared.status.TheConstants.{NO_ROOM, WRONG_CADENCE, WRONG_MARKS}
-
-abbrev pub cadence_in : PlainCadence → Cadence
-cadence_in cadence = record {
-  lead_ms = cadence.lead_ms;
-  kp_ms = cadence.kp_ms;
-  key_ms = cadence.key_ms;
-  gap_ms = cadence.gap_ms;
-}
 
 -- of a kind that a mark has, and with tones of 16 bits
 pub record IsMark (mark : PlainMark) : Type 0 where

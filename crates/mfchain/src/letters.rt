@@ -1,10 +1,10 @@
 // The digit that a character dials, for C.
 ghost use Rattle.std.specs.Prelude.{◌≡◌, ◌≢◌, Some, None};
-ghost use Rattle.xb_letters.specs.Letters.{digit_of_character};
+ghost use Rattle.xb_model.specs.Letters.{digit_of_character};
 ghost use Rattle.mfchain.specs.declared.status.TheConstants.{WRONG_CHARACTER as wrong};
 
 use crate::status::WRONG_CHARACTER;
-use xb_letters::digit_of_character;
+use xb_model::digit_of_character;
 use xb_structs::DONE;
 
 /// The digit that a character dials: a digit itself, or the digit beside which a letter stands on a dial, small or not.

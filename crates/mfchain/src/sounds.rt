@@ -4,7 +4,7 @@ ghost use Rattle.std.specs.Prelude.{length, take};
 ghost use Rattle.xb_structs.specs.EntryLines.{IsKind, mark_in, pair_in};
 ghost use Rattle.xb_sound.specs.Cadences.{standard_cadence};
 ghost use Rattle.xb_sound.specs.Sounds.{mark_sound, silence, tone_sound};
-ghost use Rattle.mfchain.specs.Sounds.{DoesNotPlay, IsMark, Plays, cadence_in};
+ghost use Rattle.mfchain.specs.Sounds.{DoesNotPlay, IsMark, Plays};
 
 use crate::status::{NO_ROOM, WRONG_CADENCE, WRONG_MARKS};
 use xb_model::Tone;
@@ -16,20 +16,6 @@ const SAMPLES_PER_MS: usize = 8;
 
 // The greatest kind of a mark.
 const LAST_KIND: u32 = 7;
-
-/// How long the tones of a keying last, and the silences between them, each in ms.
-#[repr(C)]
-#[derive(Clone, Copy)]
-pub struct PlainCadence {
-    /// The silence before KP.
-    pub lead_ms: u16,
-    /// The tone of KP.
-    pub kp_ms: u16,
-    /// The tone of a digit, and of ST.
-    pub key_ms: u16,
-    /// The silence after each tone, ST too.
-    pub gap_ms: u16,
-}
 
 // There are more samples than there is room for.
 #[derive(Clone, Copy)]
@@ -105,29 +91,12 @@ fn tone_of(mark: &PlainMark) -> Option<Tone>
     })
 }
 
-fn cadence_of(cadence: &PlainCadence) -> Cadence
-    ensures { result ≡ cadence_in cadence.now }
-{
-    Cadence {
-        lead_ms: cadence.lead_ms,
-        kp_ms: cadence.kp_ms,
-        key_ms: cadence.key_ms,
-        gap_ms: cadence.gap_ms,
-    }
-}
-
 /// Writes the times of a sender.
 #[unsafe(no_mangle)]
-pub extern "C" fn mfchain_cadence(cadence: &mut PlainCadence)
-    ensures { cadence_in cadence.new ≡ standard_cadence }
+pub extern "C" fn mfchain_cadence(cadence: &mut Cadence)
+    ensures { cadence.new ≡ standard_cadence }
 {
-    let standard = Cadence::standard();
-    *cadence = PlainCadence {
-        lead_ms: standard.lead_ms,
-        kp_ms: standard.kp_ms,
-        key_ms: standard.key_ms,
-        gap_ms: standard.gap_ms,
-    };
+    *cadence = Cadence::standard();
 }
 
 /// The samples of a mark by a cadence, 8,000 a second, as `mftone` writes them: the first `count` of `room`. On any
@@ -135,19 +104,19 @@ pub extern "C" fn mfchain_cadence(cadence: &mut PlainCadence)
 #[unsafe(no_mangle)]
 pub extern "C" fn mfchain_sound(
     mark: &PlainMark,
-    cadence: &PlainCadence,
+    cadence: &Cadence,
     room: &mut [i16],
     count: &mut usize,
 ) -> u32
-    ensures plays { result ≡ 0 → Plays mark.now (cadence_in cadence.now) room.new count.new }
+    ensures plays { result ≡ 0 → Plays mark.now cadence.now room.new count.new }
     ensures refuses { result ≢ 0 →
-        DoesNotPlay mark.now (cadence_in cadence.now) room.old room.new count.new result }
+        DoesNotPlay mark.now cadence.now room.old room.new count.new result }
 {
     *count = 0;
     let Some(tone) = tone_of(mark) else {
         return WRONG_MARKS;
     };
-    let cadence = cadence_of(cadence);
+    let cadence = *cadence;
     if cadence.check().is_err() {
         return WRONG_CADENCE;
     }

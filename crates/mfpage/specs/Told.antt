@@ -20,7 +20,8 @@ pub record AreTold (deck room : List ℕ) (count : ℕ) : Type 0 where
   pub lines : take count room ≡ report_text (codes "deck") false deck
   pub few : count ≤ length room
 
--- the lines are longer than the room, and have as many bytes as are counted
-pub record NeedsRoomForLines (deck room : List ℕ) (count : ℕ) : Type 0 where
+-- the lines are longer than the room, which is as it was, and have as many bytes as are counted
+pub record NeedsRoomForLines (deck old new : List ℕ) (count : ℕ) : Type 0 where
   pub is : count ≡ length (report_text (codes "deck") false deck)
-  pub longer : length room < count
+  pub longer : length old < count
+  pub kept : new ≡ old

@@ -3,8 +3,8 @@
 
 use std::io::{self, BufReader, IsTerminal};
 use std::process::ExitCode;
-use xb_command::{Call, Pipe, SystemFiles, words_of_process};
-use xb_rx::{PROGRAM, attend};
+use xb_command::{Call, Pipe, SystemFiles, attend, words_of_process};
+use xb_rx::{Asked, PROGRAM};
 
 // Does what the words ask for, and gives the status of the process.
 fn run(rt: &HostRuntime) -> io::Result<u8> {
@@ -22,7 +22,14 @@ fn run(rt: &HostRuntime) -> io::Result<u8> {
         is_shown: rt.stdout().is_terminal(),
     };
     let files = SystemFiles { rt };
-    let status = attend(rt.alloc(), &call, &files, &mut input, &mut out, &mut err);
+    let status = attend::<Asked<'_>, _, _, _, _>(
+        rt.alloc(),
+        &call,
+        &files,
+        &mut input,
+        &mut out,
+        &mut err,
+    );
     Ok(pipe.status(status))
 }
 

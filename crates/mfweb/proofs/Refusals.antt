@@ -7,7 +7,6 @@ use Rattle.xb_structs.specs.declared.row.PlainRow.{PlainRow}
 use Rattle.xb_structs.specs.declared.table.PlainTable.{PlainTable}
 use Rattle.xb_structs.specs.Lines.{pulse_in}
 use Rattle.xb_structs.specs.Signals.{IsNotHeard}
-use Rattle.xb_structs.specs.Tables.{limits_in}
 use Rattle.xb_structs.specs.Taking.{IsRefused}
 use Rattle.mfweb.proofs.FewSignals.{few_signals}
 
@@ -18,4 +17,4 @@ refused_as_heard Line table row line why = why
 refused_as_heard State table row line why = why
 refused_as_heard Ms table row line why = why
 refused_as_heard Room table row line lacks =
-    absurd (omega (arith, lacks.less, few_signals (limits_in table) (pulse_in line.pulse) lacks.taken))
+    absurd (omega (arith, lacks.less, few_signals table.limits (pulse_in line.pulse) lacks.taken))

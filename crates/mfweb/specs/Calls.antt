@@ -8,29 +8,8 @@ use Rattle.xb_routes.specs.Table.{Table}
 use Rattle.xb_structs.specs.declared.table.PlainTable.{PlainTable}
 use Rattle.xb_structs.specs.Filling.{IsNotAdded, begun}
 use Rattle.xb_structs.specs.Tables.{Holds}
-use Rattle.xb_sound.specs.declared.cadence.Cadence.{Cadence}
-use Rattle.mfweb.specs.declared.exports.WebCadence.{WebCadence}
-use Rattle.mfweb.specs.declared.exports.WebLimits.{WebLimits}
 use Rattle.mfweb.specs.declared.exports.WebRoute.{WebRoute}
 use Rattle.xb_structs.specs.Status.{fault_place, fault_status}
-
-abbrev pub limits_of : WebLimits → Limits
-limits_of limits = record {
-  pulse_min = limits.pulse_min;
-  pulse_max = limits.pulse_max;
-  make_min = limits.make_min;
-  pause = limits.pause;
-  release = limits.release;
-  timeout = limits.timeout;
-}
-
-abbrev pub cadence_of : WebCadence → Cadence
-cadence_of cadence = record {
-  lead_ms = cadence.lead_ms;
-  kp_ms = cadence.kp_ms;
-  key_ms = cadence.key_ms;
-  gap_ms = cadence.gap_ms;
-}
 
 abbrev pub pair : ℕ → ℕ → Tone
 pair low high = record { low = low; high = high }

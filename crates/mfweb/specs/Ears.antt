@@ -1,7 +1,7 @@
 -- What an ear knows and hears, in numbers.
 use Rattle.std.specs.Prelude.{◌≡◌, ℕ, ◌<◌, ◌≤◌, ◌==◌, if◌then◌else◌, List, ◌++◌, length, map, take, Option, Some, None, option_map, ℤ}
 use Rattle.xb_ear.specs.declared.hearing.Heard.{Heard}
-use Rattle.xb_ear.specs.declared.plain.PlainEar.{PlainEar}
+use Rattle.xb_ear.specs.declared.ear_parts.PlainEar.{PlainEar}
 use Rattle.xb_ear.specs.declared.sight.Sight.{Sight}
 use Rattle.xb_ear.specs.Hearings.{listed}
 use Rattle.xb_ear.specs.Plain.{receiving_in as receiving_of_parts}
@@ -27,7 +27,7 @@ abbrev pub parts_in : WebEar → PlainEar
 parts_in ear = record {
   window = ear.window;
   filled = ear.filled;
-  held = ear.held;
+  held = map sight_in ear.held;
   least = ear.least;
   hearing = record {
     at = ear.at;

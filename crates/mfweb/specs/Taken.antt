@@ -10,7 +10,6 @@ use Rattle.xb_structs.specs.Calls.{IsTaken}
 use Rattle.xb_structs.specs.Lines.{pulse_in, register_in}
 use Rattle.xb_structs.specs.Signals.{Hears}
 use Rattle.xb_structs.specs.Status.{refusal_status}
-use Rattle.xb_structs.specs.Tables.{limits_in}
 use Rattle.xb_structs.specs.Taking.{IsRefused}
 use Rattle.mfweb.specs.declared.taking.WebTaken.{WebTaken}
 use Rattle.mfweb.specs.Lamps.{AreLamps, listens}
@@ -34,7 +33,7 @@ pub record TakesRow (table : PlainTable) (old new : PlainLine) (row : PlainRow) 
   pub hears : Hears table old row taken.signals taken.signal_count
   pub few : taken.signal_count ≤ 2
   pub lamps : AreLamps new taken.lamps
-  pub wrong : taken.wrong ≡ fault_number (fault_by (limits_in table) (pulse_in old.pulse) row)
+  pub wrong : taken.wrong ≡ fault_number (fault_by table.limits (pulse_in old.pulse) row)
   pub digit : taken.digit ≡ digit_of_first (take taken.signal_count taken.signals)
   pub listens : taken.listens ≡ listens (register_in old.register)
 

@@ -1,5 +1,5 @@
 // What an ear knows and hears, as plain numbers.
-ghost use Rattle.std.specs.Prelude.{◌≡◌, ◌↔◌, IsSome, IfSome, Some};
+ghost use Rattle.std.specs.Prelude.{◌≡◌, ◌↔◌, IsSome, IfSome, Some, map};
 ghost use Rattle.mfweb.specs.Ears.{IsEar, key_in, no_sight, plain_key, plain_optional, plain_sight};
 ghost use Rattle.mfweb.specs.Ears.{receiving_in, sight_in};
 
@@ -55,8 +55,8 @@ pub struct WebEar {
     pub seen: WebSight,
     /// The key that sounds.
     pub sounding: WebHeard,
-    /// What the last 64 windows held: both tones' levels together, of silence 0.
-    pub held: [u64; 64],
+    /// What stood out in the last 64 windows.
+    pub held: [WebSight; 64],
     /// The least power that lay beside the six frequencies of late; 0 before the first window.
     pub least: u64,
     /// How many samples of the next window are there: fewer than 80.
@@ -129,6 +129,28 @@ fn optional_sight(sight: Option<Sight>) -> WebSight
     }
 }
 
+// What stood out in windows.
+fn sights_of(web: &[WebSight; 64]) -> [Option<Sight>; 64]
+    ensures { result ≡ map sight_in web.now }
+{
+    let mut sights = [None; 64];
+    for n in 0..64 {
+        sights[n] = sight_of(web[n]);
+    }
+    sights
+}
+
+// The same in numbers.
+fn plain_sights(sights: &[Option<Sight>; 64]) -> [WebSight; 64]
+    ensures { map sight_in result ≡ sights.now }
+{
+    let mut web = [no_sight(); 64];
+    for n in 0..64 {
+        web[n] = optional_sight(sights[n]);
+    }
+    web
+}
+
 /// A key in numbers.
 pub(crate) fn plain_key(key: Heard) -> WebHeard
     ensures value { result ≡ plain_key key }
@@ -162,7 +184,7 @@ pub(crate) fn receiver_of(ear: &WebEar) -> Option<Receiver>
     ensures value { IfSome result (λ receiver. receiver ≡ receiving_in ear.now) }
 {
     let window = ear.window;
-    let held = ear.held;
+    let held = sights_of(&ear.held);
     Receiver::of_parts(PlainEar {
         window,
         filled: ear.filled as usize,
@@ -187,7 +209,7 @@ pub(crate) fn ear_of(receiver: &Receiver) -> WebEar
 {
     let parts = receiver.parts();
     let window = parts.window;
-    let held = parts.held;
+    let held = plain_sights(&parts.held);
     WebEar {
         at: parts.hearing.at,
         first: parts.hearing.first,

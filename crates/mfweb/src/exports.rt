@@ -7,8 +7,7 @@ ghost use Rattle.xb_routes.specs.Keys.{keys_in};
 ghost use Rattle.xb_sound.specs.Cadences.{standard_cadence};
 ghost use Rattle.xb_sound.specs.Sines.{pair_sample};
 ghost use Rattle.xb_structs.specs.Filling.{HasAdded};
-ghost use Rattle.mfweb.specs.Calls.{Begins, DoesNotAdd, DoesNotBegin};
-ghost use Rattle.mfweb.specs.Calls.{cadence_of, limits_of, pair, words_of};
+ghost use Rattle.mfweb.specs.Calls.{Begins, DoesNotAdd, DoesNotBegin, pair, words_of};
 ghost use Rattle.mfweb.specs.Showing.{DoesNotPrint, FindsCode, FindsNoCode, PrintsEntry, number_in};
 
 use crate::status::NO_CODE;
@@ -19,24 +18,6 @@ use xb_structs::{
     DONE, PlainMark, PlainTable, add, begin, deciding, fault_place, fault_status, print_entry,
     print_status, refusal_status,
 };
-
-/// The limits of a line's pulses, each in ms.
-#[repr(C)]
-#[derive(Clone, Copy)]
-pub struct WebLimits {
-    /// The shortest break that is a pulse.
-    pub pulse_min: u32,
-    /// The longest break that is a pulse.
-    pub pulse_max: u32,
-    /// The shortest make between two pulses.
-    pub make_min: u32,
-    /// A make of this or more after a pulse ends the digit.
-    pub pause: u32,
-    /// A break of this or more releases the line.
-    pub release: u32,
-    /// A make of this or more times out an unfinished attempt.
-    pub timeout: u32,
-}
 
 /// The numbers of a route, and which of them its text says.
 #[repr(C)]
@@ -52,34 +33,12 @@ pub struct WebRoute {
     pub has_prefix: u8,
 }
 
-/// How long the tones of a keying last, and the silences between them, each in ms.
-#[repr(C)]
-#[derive(Clone, Copy)]
-pub struct WebCadence {
-    /// The silence before KP.
-    pub lead_ms: u16,
-    /// The tone of KP.
-    pub kp_ms: u16,
-    /// The tone of a digit, and of ST.
-    pub key_ms: u16,
-    /// The silence after each tone, ST too.
-    pub gap_ms: u16,
-}
-
 /// Writes the standard limits.
 #[unsafe(no_mangle)]
-pub extern "C" fn mfweb_limits(limits: &mut WebLimits)
-    ensures { limits_of limits.new ≡ standard_limits }
+pub extern "C" fn mfweb_limits(limits: &mut Limits)
+    ensures { limits.new ≡ standard_limits }
 {
-    let standard = Limits::standard();
-    *limits = WebLimits {
-        pulse_min: standard.pulse_min,
-        pulse_max: standard.pulse_max,
-        make_min: standard.make_min,
-        pause: standard.pause,
-        release: standard.release,
-        timeout: standard.timeout,
-    };
+    *limits = Limits::standard();
 }
 
 /// Begins a route table by its plan, 7 or 10, and its limits: it has no route as yet. On any other status than
@@ -88,23 +47,15 @@ pub extern "C" fn mfweb_limits(limits: &mut WebLimits)
 pub extern "C" fn mfweb_begin(
     table: &mut PlainTable,
     plan: u32,
-    limits: &WebLimits,
+    limits: &Limits,
     place: &mut u32,
 ) -> u32
-    ensures begins { result ≡ 0 → Begins table.new plan (limits_of limits.now) }
+    ensures begins { result ≡ 0 → Begins table.new plan limits.now }
     ensures refuses { result ≢ 0 →
-        DoesNotBegin table.old table.new plan (limits_of limits.now) place.new result }
+        DoesNotBegin table.old table.new plan limits.now place.new result }
 {
-    let limits = Limits {
-        pulse_min: limits.pulse_min,
-        pulse_max: limits.pulse_max,
-        make_min: limits.make_min,
-        pause: limits.pause,
-        release: limits.release,
-        timeout: limits.timeout,
-    };
     *place = 0;
-    match begin(table, plan, limits) {
+    match begin(table, plan, *limits) {
         Ok(()) => DONE,
         Err(fault) => {
             *place = fault_place(fault);
@@ -201,16 +152,10 @@ pub extern "C" fn mfweb_entry(
 
 /// Writes the times of a sender.
 #[unsafe(no_mangle)]
-pub extern "C" fn mfweb_cadence(cadence: &mut WebCadence)
-    ensures { cadence_of cadence.new ≡ standard_cadence }
+pub extern "C" fn mfweb_cadence(cadence: &mut Cadence)
+    ensures { cadence.new ≡ standard_cadence }
 {
-    let standard = Cadence::standard();
-    *cadence = WebCadence {
-        lead_ms: standard.lead_ms,
-        kp_ms: standard.kp_ms,
-        key_ms: standard.key_ms,
-        gap_ms: standard.gap_ms,
-    };
+    *cadence = Cadence::standard();
 }
 
 /// Fills the room with the first samples of a tone of two frequencies, 8,000 samples a second. A room of 2^32

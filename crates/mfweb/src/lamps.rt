@@ -2,14 +2,15 @@
 ghost use Rattle.std.specs.Prelude.{◌≡◌, ◌≤◌, length, map, take};
 ghost use Rattle.xb_register.specs.Plain.{plain_of as register_numbers};
 ghost use Rattle.xb_structs.specs.Digits.{digit_in};
+ghost use Rattle.xb_structs.specs.HeardSignals.{pulses_of};
 ghost use Rattle.xb_structs.specs.Lines.{pulse_in, register_in};
 ghost use Rattle.xb_pulse.specs.Plain.{plain_of as pulse_numbers};
 ghost use Rattle.mfweb.specs.Lamps.{AreLamps, elements_of, lit_digit};
 
-use xb_model::{Digit, NUMBER_DIGITS, NumberDigits};
+use xb_model::{Digit, MOST_PULSES, NUMBER_DIGITS, NumberDigits};
 use xb_pulse::{PlainPulse, PulseState};
 use xb_register::{PlainRegister, RegisterState};
-use xb_structs::{PlainLine, PulsePart, RegisterPart, dialled};
+use xb_structs::{PlainLine, PulsePart, RegisterPart, dialled, train_elements};
 
 /// A digit, and its lamps.
 #[repr(C)]
@@ -39,23 +40,18 @@ pub struct WebLamps {
     pub digits: [WebDigit; 10],
 }
 
+// How many pulses a digit has.
+fn pulses_of(digit: u8) -> u8
+    ensures { result ≡ pulses_of digit }
+{
+    if digit == 0 { MOST_PULSES } else { digit }
+}
+
 // The elements that operate for a digit.
 fn elements_of(digit: u8) -> [u8; 5]
     ensures { result ≡ elements_of digit }
 {
-    match digit {
-        1 => [1, 1, 0, 0, 0],
-        2 => [1, 0, 1, 0, 0],
-        3 => [0, 1, 1, 0, 0],
-        4 => [1, 0, 0, 1, 0],
-        5 => [0, 1, 0, 1, 0],
-        6 => [0, 0, 1, 1, 0],
-        7 => [1, 0, 0, 0, 1],
-        8 => [0, 1, 0, 0, 1],
-        9 => [0, 0, 1, 0, 1],
-        0 | 10 => [0, 0, 0, 1, 1],
-        _ => [0; 5],
-    }
+    train_elements(pulses_of(digit), false)
 }
 
 // A digit and its lamps.

@@ -3,12 +3,14 @@ ghost use Rattle.std.specs.Prelude.{◌≡◌, ◌≢◌, ◌≤◌, ◌<◌, le
 ghost use Rattle.mfweb.specs.declared.layout.TheConstants.{LAYOUT};
 
 use crate::ears::{WebEar, WebHeard, WebSight};
-use crate::exports::{WebCadence, WebLimits, WebRoute};
+use crate::exports::WebRoute;
 use crate::lamps::{WebDigit, WebLamps};
 use crate::status::NO_ROOM;
 use crate::taking::WebTaken;
 use std::mem::size_of;
+use xb_model::Limits;
 use xb_onward::{PlainKey, PlainOutcome};
+use xb_sound::Cadence;
 use xb_structs::{DONE, PlainLine, PlainMark, PlainRoute, PlainRow, PlainSignal, PlainTable};
 
 // A struct in a text line: its name, its bytes, and each field with its type and where it begins. No struct has bytes
@@ -29,12 +31,12 @@ wrong:u32@572 digit:u32@576 listens:u32@580
 cadence 8 lead:u16@0 kp:u16@2 key:u16@4 gap:u16@6
 sight 24 low_level:u64@0 high_level:u64@8 low:u16@16 high:u16@18 kind:u16@20 value:u16@22
 heard 40 sight:sight@0 first:u64@24 past:u64@32
-ear 792
+ear 1816
 timed 24 begin_ms:u64@0 end_ms:u64@8 kind:u8@16 digit:u8@17
 outcome 12 kind:u8@0 count:u8@1 digits:u8*10@2
 ";
 
-const _: () = prove!(size_of::<WebLimits>() == 24);
+const _: () = prove!(size_of::<Limits>() == 24);
 
 const _: () = prove!(size_of::<PlainTable>() == 16_032);
 
@@ -56,13 +58,13 @@ const _: () = prove!(size_of::<WebLamps>() == 68);
 
 const _: () = prove!(size_of::<WebTaken>() == 584);
 
-const _: () = prove!(size_of::<WebCadence>() == 8);
+const _: () = prove!(size_of::<Cadence>() == 8);
 
 const _: () = prove!(size_of::<WebSight>() == 24);
 
 const _: () = prove!(size_of::<WebHeard>() == 40);
 
-const _: () = prove!(size_of::<WebEar>() == 792);
+const _: () = prove!(size_of::<WebEar>() == 1_816);
 
 const _: () = prove!(size_of::<PlainKey>() == 24);
 

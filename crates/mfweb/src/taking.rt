@@ -2,14 +2,13 @@
 ghost use Rattle.std.specs.Prelude.{◌≡◌, ◌≢◌, [], ℕ, IfErr, IfOk};
 ghost use Rattle.xb_routes.specs.Table.{Table};
 ghost use Rattle.xb_structs.specs.Hearing.{HasHeard};
-ghost use Rattle.xb_structs.specs.Tables.{limits_in};
 ghost use Rattle.xb_structs.specs.Taking.{HasTaken, IsRefused};
 ghost use Rattle.mfweb.specs.Lamps.{AreLamps};
 ghost use Rattle.mfweb.specs.Taken.{RefusesRow, TakesRow, digit_of_first};
 
 use crate::lamps::{WebDigit, WebLamps, attempt_of, lamps_of};
 use crate::wrong::wrong_by;
-use xb_model::{Limits, Relays};
+use xb_model::Relays;
 use xb_structs::{
     DONE, PlainLine, PlainMark, PlainRow, PlainSignal, PlainTable, Refusal, refusal_status,
     signals, take,
@@ -58,20 +57,6 @@ fn digit_of_first(signals: &[PlainSignal]) -> u32
             }
         }
         _ => NOT_ENDED,
-    }
-}
-
-// The limits of a table.
-fn limits_of(table: &PlainTable) -> Limits
-    ensures { result ≡ limits_in table.now }
-{
-    Limits {
-        pulse_min: table.pulse_min,
-        pulse_max: table.pulse_max,
-        make_min: table.make_min,
-        pause: table.pause,
-        release: table.release,
-        timeout: table.timeout,
     }
 }
 
@@ -127,7 +112,7 @@ fn take_row(
     taken.mark_count = mark_count as u32;
     taken.signal_count = signal_count as u32;
     taken.lamps = lamps_of(&after);
-    taken.wrong = wrong_by(limits_of(table), &line.pulse, row);
+    taken.wrong = wrong_by(table.limits, &line.pulse, row);
     taken.digit = digit_of_first(&taken.signals[..signal_count]);
     taken.listens = u32::from(attempt_of(&line.register) == LISTENS);
     Ok((taken, after))

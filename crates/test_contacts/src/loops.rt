@@ -5,6 +5,7 @@
 
 mod attending;
 mod by_line;
+mod firsts;
 mod forms;
 mod listing;
 mod losing;

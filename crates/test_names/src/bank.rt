@@ -129,8 +129,21 @@ pub fn tapes_on_threads<
     S: RowSource + Drop + Send,
     R: Threads + Wait + Clock + Sync,
     G: Gate + Sync,
->(rt: &R, alloc: Global, source: S, table: &RouteTable, gate: &G) -> Result<Tapes, BankFault> {
-    run(rt, alloc, source, table, 8, 1_024, gate)
+>(
+    rt: &R,
+    alloc: Global,
+    source: S,
+    table: &RouteTable,
+    senders: usize,
+    room: usize,
+    gate: &G,
+) -> Result<Tapes, BankFault>
+    requires least_senders { 1 ≤ senders }
+    requires most_senders { senders ≤ 8 }
+    requires least_room { 1 ≤ room }
+    requires most_room { room ≤ 1024 }
+{
+    run(rt, alloc, source, table, senders, room, gate)
 }
 
 /// The chain with one owner.
@@ -138,8 +151,15 @@ pub fn make_replay<'a>(
     alloc: Global,
     rows: &'a [Row],
     table: &'a RouteTable,
-) -> Result<Replay<'a>, AllocError> {
-    Replay::new(alloc, rows, table, 8, 1_024)
+    senders: usize,
+    room: usize,
+) -> Result<Replay<'a>, AllocError>
+    requires least_senders { 1 ≤ senders }
+    requires most_senders { senders ≤ 8 }
+    requires least_room { 1 ≤ room }
+    requires most_room { room ≤ 1024 }
+{
+    Replay::new(alloc, rows, table, senders, room)
 }
 
 /// A turn of one of its posts.

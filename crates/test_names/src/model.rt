@@ -119,15 +119,15 @@ pub fn length_of_number(plan: Plan, digits: &[Digit]) -> Option<u8> {
 
 /// The standard limits, in ms.
 pub fn standard_limits() -> [u32; 6] {
-    let Limits {
-        pulse_min,
-        pulse_max,
-        make_min,
-        pause,
-        release,
-        timeout,
-    } = Limits::standard();
-    [pulse_min, pulse_max, make_min, pause, release, timeout]
+    let standard = Limits::standard();
+    [
+        standard.pulse_min,
+        standard.pulse_max,
+        standard.make_min,
+        standard.pause,
+        standard.release,
+        standard.timeout,
+    ]
 }
 
 /// The patterns of two out of five.

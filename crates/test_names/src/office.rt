@@ -1,4 +1,6 @@
 // A deck, its page, and the program by its words.
+ghost use Rattle.std.specs.Prelude.{◌≤◌};
+
 use std::alloc::{AllocError, Global};
 use std::io::{Read, Write};
 use std::sync::Wait;
@@ -48,8 +50,15 @@ pub fn write_page<R: Read, W: Write, H: Threads + Wait + Clock + Sync>(
     alloc: Global,
     deck: &mut R,
     out: &mut W,
-) -> Result<(), OfficeFault> {
-    operate(rt, alloc, deck, out, 8, 1_024)
+    senders: usize,
+    room: usize,
+) -> Result<(), OfficeFault>
+    requires least_senders { 1 ≤ senders }
+    requires most_senders { senders ≤ 8 }
+    requires least_room { 1 ≤ room }
+    requires most_room { room ≤ 1024 }
+{
+    operate(rt, alloc, deck, out, senders, room)
 }
 
 /// The status of the program.

@@ -46,9 +46,15 @@ pub fn flows<T: Copy>(item: T) -> [Flow<T>; 3] {
     [flow, flow, Flow::End]
 }
 
-/// A ring of the greatest capacity.
-pub fn ring<T: Drop>(alloc: Global) -> Result<(Producer<Flow<T>>, Consumer<Flow<T>>), AllocError> {
-    link(alloc, 1_024)
+/// A ring.
+pub fn ring<T: Drop>(
+    alloc: Global,
+    room: usize,
+) -> Result<(Producer<Flow<T>>, Consumer<Flow<T>>), AllocError>
+    requires least { 1 ≤ room }
+    requires most { room ≤ 1024 }
+{
+    link(alloc, room)
 }
 
 /// Whether all that was sent was received.

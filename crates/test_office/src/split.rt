@@ -1,5 +1,4 @@
-//! Large decks in parts: their ranges and decks, the pages of their parts joined, and the programs `mfsplit` and
-//! `mfjoin`.
+//! Large decks in parts: their ranges and decks, the pages of their parts joined, and the program `mfoffice`.
 //!
 //! Tests alone.
 

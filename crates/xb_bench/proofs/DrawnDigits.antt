@@ -1,6 +1,7 @@
 -- What is drawn of a line are the digits that are told of it.
-use Rattle.std.proofs.Common.{◌≡◌, ℕ, zero, suc, List, [], ◌∷◌, ◌++◌, Option, Some, None, map, refl, ap, ap₂, sym, ◌∙◌, append-nil}
-use Rattle.std.specs.Prelude.{slice_get, slice_set, option_map}
+use Rattle.std.proofs.Common.{◌≡◌, ℕ, zero, suc, List, [], ◌∷◌, ◌++◌, Bool, true, false, cond, Option, Some, None, map, refl, ap, ap₂, sym, subst, ◌∙◌, ◌==◌, append-nil}
+use Rattle.std.specs.Prelude.{slice_get, slice_set, option_map, unwrap_or}
+use Rattle.std.proofs.lemmas.Bool.{eqb-false, eqb-true}
 use Rattle.std.specs.Option.{option_map_or}
 use Rattle.std.proofs.lemmas.Grind.{flat_map-append}
 use Rattle.std.proofs.lemmas.Option.{slice_get-map}
@@ -8,10 +9,11 @@ use Rattle.xb_contact.specs.declared.event.Event.{Event}
 use Rattle.xb_contact.specs.declared.event.Event.TheVariants as events
 use Rattle.xb_contact.specs.declared.level.Level.{Level}
 use Rattle.xb_contact.specs.declared.scale.Scale.{Scale}
+use Rattle.xb_contact.specs.Holds.{other_level}
 use Rattle.xb_contact.specs.Machine.{at_end}
 use Rattle.xb_feed.specs.declared.line.Line.{Line}
 use Rattle.xb_feed.specs.declared.manner.AskedLine.{AskedLine}
-use Rattle.xb_feed.specs.Watching.{Watch, all_held, begun_watch, begun_watched, heard_event, level_heard, line_changed, line_held, line_left, line_told, watch_after, watched_of, wire_changed}
+use Rattle.xb_feed.specs.Watching.{Watch, all_held, begun_watch, begun_watched, contact_before, edge_heard, first_of, heard_event, level_heard, level_seen, line_changed, line_edge_told, line_edged, line_held, line_left, line_told, told_at_edge, watch_after, watched_of, wire_changed, wire_edge_told, wire_edged}
 use Rattle.xb_plot.specs.declared.turns.Turn.{Turn}
 use Rattle.xb_plot.specs.TurnLaws.{KeepsTheLast, last_turns, with_turns}
 use Rattle.xb_plot.specs.Turns.{LastTurns, no_turns, with_turn}
@@ -37,7 +39,13 @@ abbrev under : DrawnLine → Line Bench
 under line = watched_of line.number line.manner (option_map (λ (drawn : DrawnBench). drawn.bench) line.contact)
 
 abbrev below : Watch DrawnBench Setting → Watch Bench Setting
-below watch = record { lines = map under watch.lines; common = watch.common; scale = watch.scale; now = watch.now }
+below watch = record {
+  lines = map under watch.lines;
+  common = watch.common;
+  scale = watch.scale;
+  first = watch.first;
+  now = watch.now;
+}
 
 -- it goes on as where digits are told
 held-under :
@@ -77,43 +85,85 @@ set-under [] wire line = refl
 set-under (first ∷ rest) zero line = refl
 set-under (first ∷ rest) (suc wire) line = ap (λ later. under first ∷ later) (set-under rest wire line)
 
-abbrev changed-in : Setting → Scale → ℕ → Level → ℕ → List DrawnLine → Option (Line Bench) → List (Line Bench)
-changed-in common scale now level wire lines found =
-    option_map_or (λ line. slice_set (map under lines) wire (line_changed by_digits common scale now level line)) found
-    (map under lines)
+-- the line of one wire changes
+module _ (after : Line Bench → Line Bench) (drawn-after : DrawnLine → DrawnLine)
+    (same : (line : DrawnLine) → after (under line) ≡ under (drawn-after line)) where
+  abbrev lines-after : ℕ → List DrawnLine → Option (Line Bench) → List (Line Bench)
+  lines-after wire lines found =
+      option_map_or (λ line. slice_set (map under lines) wire (after line)) found (map under lines)
+
+  one-under :
+      (wire : ℕ) (lines : List DrawnLine)
+      → lines-after wire lines (slice_get (map under lines) wire)
+      ≡ map under (option_map_or (λ line. slice_set lines wire (drawn-after line)) (slice_get lines wire) lines)
+  one-under wire lines =
+      ap (lines-after wire lines) (slice_get-map under lines wire) ∙ by (slice_get lines wire)
+    where
+      by :
+          (found : Option DrawnLine)
+          → lines-after wire lines (option_map under found)
+          ≡ map under (option_map_or (λ line. slice_set lines wire (drawn-after line)) found lines)
+      by None = refl
+      by (Some line) =
+          ap (λ l. slice_set (map under lines) wire l) (same line) ∙ set-under lines wire (drawn-after line)
 
 wire-under :
     (common : Setting) (scale : Scale) (now : ℕ) (level : Level) (wire : ℕ) (lines : List DrawnLine)
     → wire_changed by_digits common scale now level wire (map under lines)
     ≡ map under (wire_changed by_plots common scale now level wire lines)
 wire-under common scale now level wire lines =
-    ap (changed-in common scale now level wire lines) (slice_get-map under lines wire) ∙ by (slice_get lines wire)
+    one-under (line_changed by_digits common scale now level) (line_changed by_plots common scale now level)
+    (changed-under common scale now level) wire lines
+
+-- an edge
+line-edge-under :
+    (common : Setting) (scale : Scale) (began now : ℕ) (level : Level) (line : DrawnLine)
+    → line_edged by_digits common scale began now level (under line)
+    ≡ under (line_edged by_plots common scale began now level line)
+line-edge-under common scale began now level line = by line.contact
   where
     by :
-        (found : Option DrawnLine)
-        → changed-in common scale now level wire lines (option_map under found)
-        ≡ map under (option_map_or (λ line. slice_set lines wire (line_changed by_plots common scale now level line)) found lines)
+        (contact : Option DrawnBench)
+        → line_edged by_digits common scale began now level (under (watched_of line.number line.manner contact))
+        ≡ under (line_edged by_plots common scale began now level (watched_of line.number line.manner contact))
     by None = refl
-    by (Some line) =
-        ap (λ l. slice_set (map under lines) wire l) (changed-under common scale now level line)
-        ∙ set-under lines wire (line_changed by_plots common scale now level line)
+    by (Some drawn) = refl
+
+wire-edge-under :
+    (common : Setting) (scale : Scale) (began now : ℕ) (level : Level) (wire : ℕ) (lines : List DrawnLine)
+    → wire_edged by_digits common scale began now level wire (map under lines)
+    ≡ map under (wire_edged by_plots common scale began now level wire lines)
+wire-edge-under common scale began now level wire lines =
+    one-under (line_edged by_digits common scale began now level) (line_edged by_plots common scale began now level)
+    (line-edge-under common scale began now level) wire lines
+
+abbrev watch-with : Watch DrawnBench Setting → List (Line Bench) → Watch Bench Setting
+watch-with watch lines =
+    record { lines = lines; common = watch.common; scale = watch.scale; first = watch.first; now = watch.now }
 
 level-under :
     (watch : Watch DrawnBench Setting) (scale : Option Scale) (wire : ℕ) (level : Level)
     → level_heard by_digits (below watch) scale wire level ≡ below (level_heard by_plots watch scale wire level)
 level-under watch None wire level = refl
 level-under watch (Some scale) wire level =
-    ap (λ lines. record { lines = lines; common = watch.common; scale = watch.scale; now = watch.now })
-    (wire-under watch.common scale watch.now level wire watch.lines)
+    ap (watch-with watch) (wire-under watch.common scale watch.now level wire watch.lines)
+
+edge-under :
+    (watch : Watch DrawnBench Setting) (scale : Option Scale) (wire : ℕ) (level : Level)
+    → edge_heard by_digits (below watch) scale wire level ≡ below (edge_heard by_plots watch scale wire level)
+edge-under watch None wire level = refl
+edge-under watch (Some scale) wire level =
+    ap (watch-with watch) (wire-edge-under watch.common scale (first_of watch) watch.now level wire watch.lines)
 
 heard-under :
     (watch : Watch DrawnBench Setting) (event : Event)
     → heard_event by_digits (below watch) event ≡ below (heard_event by_plots watch event)
 heard-under watch (events.Ticks scale) = refl
 heard-under watch (events.At tick) =
-    ap (λ lines. record { lines = lines; common = watch.common; scale = watch.scale; now = tick })
+    ap (λ lines. record { lines = lines; common = watch.common; scale = watch.scale; first = Some (unwrap_or watch.first tick); now = tick })
     (all-under tick watch.lines)
 heard-under watch (events.Level wire level) = level-under watch watch.scale wire level
+heard-under watch (events.Edge wire level) = edge-under watch watch.scale wire level
 
 -- the digits of a line so far
 abbrev kept : Option DrawnBench → LastTurns
@@ -201,6 +251,106 @@ level-kept watch None other wire level = refl
 level-kept watch (Some scale) other wire level =
     wire-kept watch.common scale watch.now level other wire watch.lines
 
+-- an edge of its wire, or of another one
+set-apart :
+    (lines : List DrawnLine) (other wire : ℕ) (after : DrawnLine) → (other ≡ wire → ⊥)
+    → kept_at wire (slice_set lines other after) ≡ kept_at wire lines
+set-apart [] other wire after ne = refl
+set-apart (first ∷ rest) zero zero after ne = absurd (ne refl)
+set-apart (first ∷ rest) zero (suc wire) after ne = refl
+set-apart (first ∷ rest) (suc other) zero after ne = refl
+set-apart (first ∷ rest) (suc other) (suc wire) after ne = set-apart rest other wire after (λ e. ne (ap suc e))
+
+set-own :
+    (lines : List DrawnLine) (wire : ℕ) (line after : DrawnLine) → slice_get lines wire ≡ Some line
+    → kept_at wire (slice_set lines wire after) ≡ kept after.contact
+set-own [] wire line after at = cc
+set-own (first ∷ rest) zero line after at = refl
+set-own (first ∷ rest) (suc wire) line after at = set-own rest wire line after at
+
+line-edge-kept :
+    (common : Setting) (scale : Scale) (began now : ℕ) (level : Level) (line : DrawnLine)
+    → kept (line_edged by_plots common scale began now level line).contact
+    ≡ with_turns (kept line.contact) (turns_told (line_edge_told by_digits common scale began now level (under line)))
+line-edge-kept common scale began now level line = by line.contact
+  where
+    by :
+        (contact : Option DrawnBench)
+        → kept (line_edged by_plots common scale began now level (watched_of line.number line.manner contact)).contact
+        ≡ with_turns (kept contact)
+        (turns_told (line_edge_told by_digits common scale began now level (under (watched_of line.number line.manner contact))))
+    by None =
+        let seen : Level = other_level (level_seen line.manner.inverted level) in
+        let bench : Bench = contact_before by_digits line.manner common scale began now seen in
+        said-kept no_turns bench.setting line.number bench.scale (said_until bench now)
+    by (Some drawn) = refl
+
+wire-edge-kept :
+    (common : Setting) (scale : Scale) (began now : ℕ) (level : Level) (wire : ℕ) (lines : List DrawnLine)
+    → kept_at wire (wire_edged by_plots common scale began now level wire lines)
+    ≡ with_turns (kept_at wire lines)
+    (turns_told (wire_edge_told by_digits common scale began now level wire (map under lines)))
+wire-edge-kept common scale began now level wire lines =
+    by (slice_get lines wire) refl
+    ∙ ap (λ found. with_turns (kept_at wire lines)
+    (turns_told (option_map_or (line_edge_told by_digits common scale began now level) found [])))
+    (sym (slice_get-map under lines wire))
+  where
+    by :
+        (found : Option DrawnLine) → slice_get lines wire ≡ found
+        → kept_at wire (option_map_or (λ line. slice_set lines wire (line_edged by_plots common scale began now level line)) found lines)
+        ≡ with_turns (kept_in (slice_get lines wire))
+        (turns_told (option_map_or (line_edge_told by_digits common scale began now level)
+        (option_map under (slice_get lines wire)) []))
+    by None at =
+        sym (ap (λ it. with_turns (kept_in (slice_get lines wire))
+        (turns_told (option_map_or (line_edge_told by_digits common scale began now level) (option_map under it) []))) at)
+    by (Some line) at =
+        set-own lines wire line (line_edged by_plots common scale began now level line) at
+        ∙ line-edge-kept common scale began now level line
+        ∙ sym (ap (λ it. with_turns (kept_in it)
+        (turns_told (option_map_or (line_edge_told by_digits common scale began now level) (option_map under it) []))) at)
+
+edge-kept :
+    (watch : Watch DrawnBench Setting) (scale : Option Scale) (other wire : ℕ) (level : Level) (b : Bool)
+    → (other == wire) ≡ b
+    → kept_at wire (edge_heard by_plots watch scale other level).lines
+    ≡ with_turns (kept_at wire watch.lines)
+    (turns_told (cond (other == wire) (told_at_edge by_digits (below watch) scale other level) []))
+edge-kept watch scale other wire level false e =
+    other-kept scale
+    ∙ sym (ap (λ b. with_turns (kept_at wire watch.lines)
+    (turns_told (cond b (told_at_edge by_digits (below watch) scale other level) []))) e)
+  where
+    by :
+        (common : Setting) (scale : Scale) (found : Option DrawnLine)
+        → kept_at wire (option_map_or (λ line. slice_set watch.lines other
+        (line_edged by_plots common scale (first_of watch) watch.now level line)) found watch.lines)
+        ≡ kept_at wire watch.lines
+    by common scale None = refl
+    by common scale (Some line) =
+        set-apart watch.lines other wire (line_edged by_plots common scale (first_of watch) watch.now level line)
+        (λ same. eqb-false other wire e same)
+
+    other-kept :
+        (scale : Option Scale)
+        → kept_at wire (edge_heard by_plots watch scale other level).lines ≡ kept_at wire watch.lines
+    other-kept None = refl
+    other-kept (Some scale) = by watch.common scale (slice_get watch.lines other)
+edge-kept watch scale other wire level true e =
+    let K : ℕ → Type 0 = λ w. kept_at wire (edge_heard by_plots watch scale w level).lines
+    ≡ with_turns (kept_at wire watch.lines) (turns_told (told_at_edge by_digits (below watch) scale w level)) in
+    subst K (sym (eqb-true other wire e)) (own-kept scale)
+    ∙ sym (ap (λ b. with_turns (kept_at wire watch.lines)
+    (turns_told (cond b (told_at_edge by_digits (below watch) scale other level) []))) e)
+  where
+    own-kept :
+        (scale : Option Scale)
+        → kept_at wire (edge_heard by_plots watch scale wire level).lines
+        ≡ with_turns (kept_at wire watch.lines) (turns_told (told_at_edge by_digits (below watch) scale wire level))
+    own-kept None = refl
+    own-kept (Some scale) = wire-edge-kept watch.common scale (first_of watch) watch.now level wire watch.lines
+
 heard-kept :
     (watch : Watch DrawnBench Setting) (event : Event) (wire : ℕ)
     → kept_at wire (heard_event by_plots watch event).lines
@@ -213,6 +363,7 @@ heard-kept watch (events.At tick) wire =
     (turns_told (option_map_or (λ line. line_told by_digits tick line) found [])))
     (sym (slice_get-map under watch.lines wire))
 heard-kept watch (events.Level other level) wire = level-kept watch watch.scale other wire level
+heard-kept watch (events.Edge other level) wire = edge-kept watch watch.scale other wire level (other == wire) refl
 
 -- where the recording ends
 left-none :
@@ -297,7 +448,7 @@ draws keeps setting lines wire said =
     let watch : Watch DrawnBench Setting = begun_watch setting lines in
     let turns : List Turn = turns_told (told_at wire (below watch) said) in
     let same : below watch ≡ begun_watch setting lines =
-    ap (λ begun. record { lines = begun; common = setting; scale = None; now = 0 }) (begun-under lines) in
+    ap (λ begun. record { lines = begun; common = setting; scale = None; first = None; now = 0 }) (begun-under lines) in
     follows said watch wire
     ∙ ap (λ last. drawn_from wire (with_turns last turns) (below watch) said) (begun-kept lines wire)
     ∙ ap (λ last. drawn_from wire last (below watch) said) (keeps turns)

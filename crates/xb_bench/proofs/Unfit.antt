@@ -6,6 +6,7 @@ use Rattle.xb_command.specs.Works.{IsWrong}
 use Rattle.xb_command.specs.declared.asking.Answer.{Answer}
 use Rattle.xb_command.specs.declared.asking.Answer.TheVariants as answer
 use Rattle.xb_command.specs.declared.table.Call.{Call}
+use Rattle.xb_feed.proofs.UnfitWords.{unfit_is_wrong}
 use Rattle.xb_feed.specs.Options.{IsUnfit}
 use Rattle.xb_bench.specs.Options.{AskNothing, SayNothing}
 
@@ -22,9 +23,5 @@ unfit_weaker A B (answer.Against breach) also is = absurd is
 pub is_wrong :
     (call : Call) (rows : List Row) (a : Answer) → Takes call rows → IsUnfit (SayNothing rows) a
     → IsWrong AskNothing call a
-is_wrong call rows answer.NoMemory takes is = tt
-is_wrong call rows (answer.Unfit misfit) takes is = record { rows = rows; takes = takes; says = is }
-is_wrong call rows answer.Help takes is = absurd is
-is_wrong call rows answer.Version takes is = absurd is
-is_wrong call rows (answer.Wrong kind reason) takes is = absurd is
-is_wrong call rows (answer.Against breach) takes is = absurd is
+is_wrong call rows a takes is =
+    unfit_is_wrong (SayNothing rows) AskNothing call a (λ misfit says. record { rows = rows; takes = takes; says = says }) is

@@ -1,12 +1,12 @@
 -- What is drawn of a line are the digits that are told of it.
-use Rattle.std.specs.Prelude.{ℕ, ◌≡◌, List, [], ◌∷◌, ◌++◌, Option, Some, None, slice_get}
+use Rattle.std.specs.Prelude.{ℕ, ◌≡◌, List, [], ◌∷◌, ◌++◌, Option, Some, None, slice_get, ◌==◌, if◌then◌else◌}
 use Rattle.std.specs.List.{flat_map}
 use Rattle.std.specs.Option.{option_map_or}
 use Rattle.xb_contact.specs.declared.event.Event.{Event}
 use Rattle.xb_contact.specs.declared.event.Event.TheVariants as events
 use Rattle.xb_feed.specs.declared.line.Line.{Line}
 use Rattle.xb_feed.specs.declared.manner.AskedLine.{AskedLine}
-use Rattle.xb_feed.specs.Watching.{Watch, begun_watch, heard_event, line_left, line_told, watch_after}
+use Rattle.xb_feed.specs.Watching.{Watch, begun_watch, heard_event, line_left, line_told, told_at_edge, watch_after}
 use Rattle.xb_plot.specs.declared.turns.Turn.{Turn}
 use Rattle.xb_plot.specs.TurnLaws.{last_turns}
 use Rattle.xb_plot.specs.Turns.{LastTurns}
@@ -39,6 +39,8 @@ told_now wire watch (events.Ticks scale) = []
 told_now wire watch (events.At tick) =
     option_map_or (λ line. line_told by_digits tick line) (slice_get watch.lines wire) []
 told_now wire watch (events.Level other level) = []
+told_now wire watch (events.Edge other level) =
+    if other == wire then told_at_edge by_digits watch watch.scale other level else []
 
 abbrev pub told_at : ℕ → Watch Bench Setting → List Event → List Told
 told_at wire watch [] = option_map_or (λ line. line_left by_digits line) (slice_get watch.lines wire) []

@@ -1,3 +1,4 @@
+pub mod FaultTexts
 pub mod Pieces
 pub mod Texts
 pub mod SummaryTexts
@@ -11,3 +12,4 @@ pub mod Drawn
 pub mod DrawnLaws
 pub mod Options
 pub mod Program
+pub mod WorkedTexts

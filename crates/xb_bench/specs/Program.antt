@@ -22,6 +22,7 @@ use Rattle.xb_bench.specs.Drawn.{by_plots}
 use Rattle.xb_bench.specs.Options.{AskNothing, Asks}
 use Rattle.xb_bench.specs.Told.{first_text, last_text}
 use Rattle.xb_text.specs.Writing.{AppendsBeginning}
+use Rattle.xb_bench.specs.FaultTexts.{bench_text}
 
 -- an output got what stands first, and then exactly what is told of the digits of the recording, or drawn of them
 abbrev pub PrintsBy : Form → List ℕ → Request Setting → Option (List ℕ) → Option (List ℕ) → Option (List ℕ) → Type 0
@@ -91,7 +92,7 @@ pub record WritesDigits (request : Request Setting) (old new : Streams) : Type 0
 pub record HasFault (request : Request Setting) (program : Program) (old new : Streams) : Type 0 where
   pub fault : BenchFault
   pub fails : FailsToPrint request fault old.input old.output new.output
-  pub told : Tells program.name.now None old.errors new.errors
+  pub told : Tells program.name.now (Some (bench_text fault)) old.errors new.errors
 
 -- what the words ask for, what is read, and what is done
 abbrev pub by_bench : Rules Asked

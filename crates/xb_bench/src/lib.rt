@@ -5,6 +5,7 @@
 //!   that of `xb_turns`.
 //! - `DrawnBench` (`by_plots`): the same bench, and the last of its digits, which are drawn where the recording ends: those
 //!   that `Bench` tells of the line (`laws::the_digits_are_drawn`).
+//! - `laws::dials_are_told`: lines and objects of some digits, as worked by hand.
 //! - `attend` (`by_bench`): the words as they were typed and the recording in. On status 0, exactly the lines of the digits that the
 //!   recording has, after the windows by which they are judged, or their plots; on status 1, the fault of the recording.
 #![tactic(auto)]
@@ -30,7 +31,6 @@ mod words;
 pub use bench::Bench;
 pub use drawn::DrawnBench;
 pub use fault::BenchFault;
-pub use program::attend;
 pub use setting::{Form, Setting};
 pub use told::What;
 pub use words::{Asked, PROGRAM};

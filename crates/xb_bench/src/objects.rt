@@ -34,22 +34,6 @@ fn ended_line(alloc: Global, line: LineNo, event: &'static str) -> Result<String
     line_of(alloc, &object)
 }
 
-// Pulses of a line as a text line.
-fn digit_line(
-    setting: Setting,
-    line: LineNo,
-    scale: Scale,
-    ended: bool,
-    train: &Train,
-    bounce: u64,
-) -> Result<String, AllocError>
-    ensures { IfOk result (λ text. string_bytes text
-        ≡ digit_line setting line scale ended train.now bounce) }
-{
-    let object = digit_object(setting, line, scale, ended, train, bounce)?;
-    line_of(setting.alloc, &object)
-}
-
 // What the digits of a line come to as a text line.
 fn summary_line(alloc: Global, line: LineNo, scale: Scale, sums: Sums) -> Result<String, AllocError>
     ensures { IfOk result (λ text. string_bytes text ≡ line_of (summary_object line scale sums)) }
@@ -79,7 +63,8 @@ fn push_digit(
     ensures { OnOk result (string_bytes out.new
         ≡ string_bytes out.old ++ digit_line setting line scale ended train.now bounce) }
 {
-    let text = digit_line(setting, line, scale, ended, train, bounce)?;
+    let object = digit_object(setting, line, scale, ended, train, bounce)?;
+    let text = line_of(setting.alloc, &object)?;
     out.push_str(&text)
 }
 

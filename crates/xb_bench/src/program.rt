@@ -1,12 +1,8 @@
 // The program: its words and a recording in, a status and the lines of digits out.
-ghost use Rattle.std.specs.Prelude.{◌≡◌, IfErr, List, [], OnOk, map, true, ℕ};
+ghost use Rattle.std.specs.Prelude.{IfErr, List, [], OnOk, map, ℕ};
 ghost use Rattle.xb_feed.specs.Feeding.{FailsToListen, ListensTo};
 ghost use Rattle.xb_bench.specs.Benches.{by_digits};
 ghost use Rattle.xb_bench.specs.Drawn.{by_plots};
-ghost use Rattle.xb_command.specs.Programs.{streams};
-ghost use Rattle.xb_command.specs.Tables.{command_by};
-ghost use Rattle.xb_command.specs.Works.{AttendsBy};
-ghost use Rattle.clap.specs.Faults.{is_simple_and_free};
 ghost use Rattle.xb_bench.specs.Program.{FailsBy, FailsToPrint, FailsWhole, IsFaultTold, PrintsBy};
 ghost use Rattle.xb_bench.specs.Program.{PrintsDigits, PrintsWhole, by_bench};
 
@@ -18,9 +14,7 @@ use crate::told::{first_text, last_text};
 use crate::words::{Asked, asked_of};
 use std::alloc::Global;
 use std::io::{Read, Write};
-use xb_command::{
-    Answer, Call, DONE, Files, Program, Source, Work, ask_words, file_source, tell_fault,
-};
+use xb_command::{Answer, Call, DONE, Files, Given, Source, Words, Work, file_source, tell_fault};
 use xb_feed::{RecordingFault, Request, listen, missing_name};
 use xb_text::write_whole;
 
@@ -145,48 +139,26 @@ impl<'a> Work<'a> for Asked<'a> {
 
     ghost rules = { by_bench };
 
-    fn ask(alloc: Global, call: &Call<'a>) -> Result<Asked<'a>, Answer<'a>> {
-        match ask_words(alloc, call) {
-            Ok(words) => asked_of(alloc, &words),
-            Err(answer) => Err(answer),
-        }
+    fn ask(alloc: Global, _call: &Call<'a>, words: &Words<'a>) -> Result<Asked<'a>, Answer<'a>> {
+        asked_of(alloc, words)
     }
 
     fn source(&self) -> Source<'a> {
         file_source(self.request.recording)
     }
 
-    fn run<F: Files, R: Read, W: Write, E: Write>(
-        self,
-        alloc: Global,
-        program: &Program<'a>,
-        _files: &F,
-        input: &mut R,
-        out: &mut W,
-        err: &mut E,
-    ) -> u8 {
-        match print(alloc, self.request, input, out) {
-            Ok(()) => DONE,
-            Err(fault) => tell_fault(alloc, err, program.name, fault),
+    fn run<F: Files, R: Read, W: Write, E: Write>(self, given: Given<'_, 'a, F, R, W, E>) -> u8 {
+        let Given {
+            alloc,
+            input,
+            out,
+            err,
+            program,
+            ..
+        } = given;
+        if let Err(fault) = print(alloc, self.request, input, out) {
+            return tell_fault(alloc, err, program.name, fault);
         }
+        DONE
     }
-}
-
-/// Reads the words of the command line, and by them writes the lines of the digits of a recording as it comes, after the
-/// windows by which they are judged, or where it ends their plots. It returns the status of the process, as `attend` of
-/// `xb_command` says.
-pub fn attend<F: Files, R: Read, W: Write, E: Write>(
-    alloc: Global,
-    call: &Call<'_>,
-    files: &F,
-    input: &mut R,
-    out: &mut W,
-    err: &mut E,
-) -> u8
-    requires { is_simple_and_free (command_by call.now.program.now) ≡ true }
-    ensures { AttendsBy by_bench call.now (F.bytes files.now)
-        (streams (R.remaining input.old) (W.contents out.old) (E.contents err.old))
-        (streams (R.remaining input.new) (W.contents out.new) (E.contents err.new)) result }
-{
-    xb_command::attend::<Asked<'_>, F, R, W, E>(alloc, call, files, input, out, err)
 }

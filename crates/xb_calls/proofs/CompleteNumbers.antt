@@ -36,7 +36,7 @@ length_after-front plan a [] rest = inl refl
 length_after-front plan a (b ∷ []) rest = inl refl
 length_after-front plan a (b ∷ c ∷ front) rest = inr refl
 
-plan_len-front : (plan : Plan) (front rest : List ℕ)
+pub plan_len-front : (plan : Plan) (front rest : List ℕ)
     → (plan_len plan front ≡ None) ⊎ (plan_len plan front ≡ plan_len plan (front ++ rest))
 plan_len-front plan [] rest = inl refl
 plan_len-front plan (a ∷ front) rest = at (a == 0) refl

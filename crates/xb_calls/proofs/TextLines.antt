@@ -21,9 +21,6 @@ use Rattle.xb_calls.specs.ToldFields.{told}
 use Rattle.xb_calls.specs.TextLines.{StopsBy, TakesLine, after}
 use Rattle.xb_calls.specs.WrongBytes.{first_wrong}
 
-some_is : {A : Type 0} {x y : A} → Some x ≡ Some y → x ≡ y
-some_is {A} {x} {y} e = ap (λ o. unwrap_or o x) e
-
 none_is : {A : Type 0} {x : A} → None ≡ Some x → ⊥
 none_is e = cc
 

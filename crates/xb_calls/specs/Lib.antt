@@ -1,3 +1,4 @@
+pub mod FaultTexts
 pub mod Speeds
 pub mod Calls
 pub mod Dialling

@@ -1,6 +1,6 @@
 -- How a fault tells a field.
 use Rattle.std.specs.Prelude.{ℕ, ◌&&◌, nat_le, nat_lt, if◌then◌else◌, List, map, take}
-use Rattle.xb_calls.specs.declared.told.TheConstants.{MOST_TOLD_BYTES}
+use Rattle.xb_calls.specs.declared.told_field.TheConstants.{MOST_TOLD_BYTES}
 
 -- a byte as it is told: what is not printable ASCII is a question mark
 abbrev pub visible : ℕ → ℕ

@@ -2,8 +2,8 @@
 ghost use Rattle.xb_calls.specs.Heard.{DialledIsHeard, OrdersAreDialled};
 ghost use Rattle.xb_calls.specs.WorkedCalls.{BothOrders, CallsOfTexts, NumbersOfCalls, RowsOfCalls};
 ghost use Rattle.std.specs.Prelude.{◌≡◌};
-ghost use Rattle.xb_calls.specs.declared.reading.TheConstants.{MOST_TEXT_BYTES};
-ghost use Rattle.xb_calls.specs.declared.told.TheConstants.{MOST_TOLD_BYTES};
+ghost use Rattle.xb_calls.specs.declared.call_texts.TheConstants.{MOST_TEXT_BYTES};
+ghost use Rattle.xb_calls.specs.declared.told_field.TheConstants.{MOST_TOLD_BYTES};
 
 /// The rows of some calls, and the numbers that are heard of them.
 #[tactic(auto, unfolding(crate::specs::Dialling::pulses, xb_model::specs::WorkedRows::pulses, xb_model::specs::WorkedRows::dial))]

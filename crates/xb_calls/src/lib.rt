@@ -15,25 +15,25 @@
 #![tactic(auto)]
 
 mod call;
+mod call_line;
+mod call_texts;
+mod dialled_pulses;
 mod fault;
-mod fields;
 pub mod laws;
-mod lines;
-mod lists;
+mod line_rows;
 mod order;
-mod reading;
-mod runs;
 mod speed;
-mod told;
+mod text_line;
+mod told_field;
 mod wrong_byte;
 
 pub use call::Call;
+pub use call_texts::{MOST_TEXT_BYTES, calls_of_text};
+pub use dialled_pulses::pulse_count;
 pub use fault::CallFault;
-pub use lines::{in_order, lists_of, rows_of_calls};
-pub use lists::{add_digit, is_grouping, is_passed_over, strip_carriage_return, without_mark};
+pub use line_rows::{in_order, lists_of, rows_of_calls};
 pub use order::RowOrder;
-pub use reading::{MOST_TEXT_BYTES, calls_of_text};
-pub use runs::pulse_count;
 pub use speed::{Speed, SpeedFault};
-pub use told::{MOST_TOLD_BYTES, ToldField};
+pub use text_line::{add_digit, is_grouping, is_passed_over, strip_carriage_return, without_mark};
+pub use told_field::ToldField;
 pub use wrong_byte::WrongByte;

@@ -3,6 +3,7 @@ ghost use Rattle.std.specs.Prelude.{◌≡◌, ◌↔◌, IsOk, IfErr};
 ghost use Rattle.xb_model.specs.LawfulLimits.{standard_limits};
 ghost use Rattle.xb_calls.specs.Speeds.{Fits, IsFirstMisfit, ten_pulses_a_second, twenty_pulses_a_second};
 
+use std::fmt;
 use thiserror::Error;
 use xb_model::{GREATEST_MS, Limits};
 
@@ -25,20 +26,32 @@ pub struct Speed {
 #[derive(Clone, Copy, Debug, PartialEq, Eq, Error)]
 pub enum SpeedFault {
     /// The break is shorter than `pulse_min` or longer than `pulse_max`.
-    #[error("the break is no pulse")]
     Break,
     /// The make is shorter than `make_min`, or not shorter than `pause`.
-    #[error("the make is too short, or a pause")]
     Make,
     /// The pause is shorter than the limit `pause`, or not shorter than `timeout`.
-    #[error("the pause is too short, or a time-out")]
     Pause,
     /// The seizing make is 0, or not shorter than `timeout`.
-    #[error("the seizing make is 0, or a time-out")]
     Seize,
     /// The hang-up is shorter than `release`, or over 86,400,000 ms.
-    #[error("the hang-up is no release, or longer than a day")]
     HangUp,
+}
+
+impl fmt::Display for SpeedFault {
+    ghost use Rattle.std.specs.Prelude.{Some};
+    ghost use Rattle.xb_calls.specs.FaultTexts.{speed_text};
+
+    ghost output = { λ fault. Some (speed_text fault) };
+
+    fn fmt<W: fmt::Write>(&self, f: &mut fmt::Formatter<W>) -> fmt::Result {
+        match self {
+            SpeedFault::Break => f.write_str("the break is no pulse"),
+            SpeedFault::Make => f.write_str("the make is too short, or a pause"),
+            SpeedFault::Pause => f.write_str("the pause is too short, or a time-out"),
+            SpeedFault::Seize => f.write_str("the seizing make is 0, or a time-out"),
+            SpeedFault::HangUp => f.write_str("the hang-up is no release, or longer than a day"),
+        }
+    }
 }
 
 // The times that the standard speeds share.

@@ -1,5 +1,6 @@
 pub mod Constants
 pub mod Alone
+pub mod FaultTexts
 pub mod Judged
 pub mod Doubts
 pub mod Reports

@@ -1,5 +1,5 @@
 -- What the program does.
-use Rattle.std.specs.Prelude.{None, Some, Err, Ok}
+use Rattle.std.specs.Prelude.{Some, Err, Ok}
 use Rattle.std.specs.Io.KnownBytes.{Keeps}
 use Rattle.xb_command.specs.Programs.{Streams}
 use Rattle.xb_command.specs.Telling.{Tells}
@@ -9,6 +9,7 @@ use Rattle.xb_check.specs.declared.fault.CheckFault.{CheckFault}
 use Rattle.xb_check.specs.declared.words.Request.{Request}
 use Rattle.xb_check.specs.Named.{Reports}
 use Rattle.xb_check.specs.Options.{SayNoName, Says}
+use Rattle.xb_check.specs.FaultTexts.{check_text}
 
 -- `mfbank` takes the deck, and exactly its report was written
 pub record Accepts (request : Request) (old new : Streams) : Type 0 where
@@ -20,7 +21,7 @@ pub record Accepts (request : Request) (old new : Streams) : Type 0 where
 pub record Refuses (request : Request) (program : Program) (old new : Streams) : Type 0 where
   pub fault : CheckFault
   pub report : Reports request old.input (Err fault) old.output new.output
-  pub line : Tells program.name.now None old.errors new.errors
+  pub line : Tells program.name.now (Some (check_text fault)) old.errors new.errors
 
 -- what the words ask for, which value is refused, what is read, and what is done
 abbrev pub by_check : Rules Request

@@ -3,8 +3,8 @@ ghost use Rattle.std.specs.Prelude.{◌≡◌, ◌≤◌, Some, length};
 ghost use Rattle.xb_deck.specs.declared.deck.TheConstants.{MOST_DECK_BYTES};
 ghost use Rattle.xb_check.specs.Reports.{Delivers, refused_by};
 
+use crate::deck_contents::judge;
 use crate::fault::CheckFault;
-use crate::judging::judge;
 use crate::reporting::report;
 use std::alloc::Global;
 use std::io::{Read, Write};

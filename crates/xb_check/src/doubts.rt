@@ -2,14 +2,13 @@
 ghost use Rattle.std.specs.Prelude.{◌≡◌, OnOk, map};
 ghost use Rattle.std.specs.List.{flat_map};
 ghost use Rattle.xb_check.specs.Doubts.{doubt_at, doubts_in, doubts_of_rows, what_of_line, what_of_ringing, what_of_unit};
-ghost use Rattle.xb_doubts.specs.Activities.{activities_of};
-ghost use Rattle.xb_doubts.specs.Exchanged.{which_of};
+ghost use Rattle.xb_doubts.specs.Lines.{told_by};
 ghost use Rattle.xb_findings.specs.Kept.{kept_line_of};
 ghost use Rattle.xb_findings.specs.Tallies.{tallied, with_all};
 
-use crate::judging::Contents;
+use crate::deck_contents::Contents;
 use std::alloc::{AllocError, Global};
-use xb_doubts::{Activities, Exchanged, Unit, Whole, whole_of};
+use xb_doubts::{Lines, Told, Unit, Whole, whole_of};
 use xb_findings::{KeptLine, LineKind, Tally, What, push_found, without_key};
 
 // Of which other unit the times look.
@@ -51,12 +50,12 @@ fn push_whole<'a>(
 }
 
 // What is suspicious in a line of the office.
-fn what_of_line(is_quiet: bool, is_exchanged: bool) -> Option<What>
-    ensures { result ≡ what_of_line is_quiet is_exchanged }
+fn what_of_line(told: Told) -> Option<What>
+    ensures { result ≡ what_of_line told }
 {
-    if is_quiet {
+    if told.is_quiet {
         Some(What::Quiet)
-    } else if is_exchanged {
+    } else if told.is_exchanged {
         Some(What::Exchanged)
     } else {
         None
@@ -67,18 +66,16 @@ fn what_of_line(is_quiet: bool, is_exchanged: bool) -> Option<What>
 fn push_doubt<'a>(
     tally: &mut Tally<'a>,
     whole: Whole,
-    lines: &Activities,
-    exchanged: &Exchanged,
+    lines: &Lines,
     kept: KeptLine<'a>,
 ) -> Result<(), AllocError>
     ensures { OnOk result (tallied tally.new ≡ with_all (tallied tally.old)
-        (doubt_at whole.unit whole.is_ringing (activities_of lines.now) (which_of exchanged.now)
-        (kept_line_of kept.entry))) }
+        (doubt_at whole.unit whole.is_ringing (told_by lines.now) (kept_line_of kept.entry))) }
 {
     match kept.kind {
         LineKind::Header => push_whole(tally, whole, kept.n, kept.text),
         LineKind::First(number) => {
-            let what = what_of_line(lines.is_quiet(number), exchanged.is_exchanged(number));
+            let what = what_of_line(lines.of_number(number));
             push_found(tally, kept.n, kept.text, without_key(what))
         }
     }
@@ -88,16 +85,14 @@ fn push_doubt<'a>(
 fn push_each<'a>(
     tally: &mut Tally<'a>,
     whole: Whole,
-    lines: &Activities,
-    exchanged: &Exchanged,
+    lines: &Lines,
     kept: &[KeptLine<'a>],
 ) -> Result<(), AllocError>
     ensures { OnOk result (tallied tally.new ≡ with_all (tallied tally.old)
-        (flat_map (doubt_at whole.unit whole.is_ringing (activities_of lines.now) (which_of exchanged.now))
-        (map kept_line_of kept.now))) }
+        (flat_map (doubt_at whole.unit whole.is_ringing (told_by lines.now)) (map kept_line_of kept.now))) }
 {
     for line in kept {
-        push_doubt(tally, whole, lines, exchanged, *line)?;
+        push_doubt(tally, whole, lines, *line)?;
     }
     Ok(())
 }
@@ -113,9 +108,8 @@ pub(crate) fn push_doubts<'a>(
         (doubts_in contents.now (map kept_line_of kept.now))) }
 {
     let (limits, rows) = (contents.limits(), contents.rows());
-    let exchanged = Exchanged::of_rows(alloc, limits, rows)?;
-    let straight = exchanged.rows_of_others(alloc, rows)?;
+    let lines = Lines::of_rows(alloc, limits, rows)?;
+    let straight = lines.rows_of_others(alloc, rows)?;
     let whole = whole_of(alloc, limits, &straight)?;
-    let lines = Activities::of_rows(alloc, rows)?;
-    push_each(tally, whole, &lines, &exchanged, kept)
+    push_each(tally, whole, &lines, kept)
 }

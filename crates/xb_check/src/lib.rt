@@ -8,7 +8,7 @@
 //!   of a deck (`judged`).
 //! - A deck that is taken is then told of as a whole, at the text lines that were kept (`doubts_of`,
 //!   `specs/Doubts.antt`). Each line of the office with rows but no make that is heard is told at its first
-//!   record, and each whose makes and breaks look exchanged (`looks_exchanged` of `xb_doubts`). At the header
+//!   record, and each whose makes and breaks look exchanged (`Lines` of `xb_doubts`). At the header
 //!   it is told of the other lines that the times look as if they were of another unit, and that they ring
 //!   (`wrong_unit` and `is_ringing` there).
 //! - Of a deck that is refused it is told what its fault is about (`told_of_fault` of `xb_findings`).
@@ -20,22 +20,19 @@
 //!   written (`AttendsBy` of `xb_command`). The name that is told of the deck is in one line.
 #![tactic(auto)]
 
-mod alone;
 mod checking;
+mod deck_contents;
 mod doubts;
 mod fault;
-mod judging;
 pub mod laws;
-mod name;
 mod program;
 mod reporting;
+mod table_alone;
 mod words;
 
 pub use checking::check;
+pub use deck_contents::verdict;
 pub use fault::CheckFault;
-pub use judging::verdict;
-pub use program::attend;
-pub use reporting::MOST_SHOWN_BYTES;
-pub use words::PROGRAM;
-pub use xb_findings::{Finding, TOLD_OF_A_KIND, What, findings};
-pub use xb_keys::{Key, Section};
+pub use words::{PROGRAM, Request};
+pub use xb_findings::{Finding, What, findings};
+pub use xb_keys::Key;

@@ -10,15 +10,15 @@ ghost use Rattle.xb_check.specs.Reports.{count_words, found_text, more_text, mor
 ghost use Rattle.xb_findings.specs.Tallies.{tallied, untold_of, with_all};
 ghost use Rattle.xb_check.specs.TallyTexts.{more_of, text_of_tally};
 
+use crate::deck_contents::Contents;
 use crate::doubts::push_doubts;
-use crate::judging::Contents;
 use std::alloc::{AllocError, Global};
 use xb_deck::DeckFault;
 use xb_findings::{EACH_KIND, Finding, KeptLine, LinesRead, Tally, What, push_fault, read_lines};
 use xb_keys::Key;
 
 /// The most bytes of a text line that are shown beside what is wrong with it.
-pub const MOST_SHOWN_BYTES: usize = 60;
+pub(crate) const MOST_SHOWN_BYTES: usize = 60;
 
 // A byte as it is shown.
 fn visible(byte: u8) -> u8

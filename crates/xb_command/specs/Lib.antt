@@ -2,6 +2,7 @@ pub mod Answering
 pub mod Answers
 pub mod Commands
 pub mod Constants
+pub mod FaultTexts
 pub mod Files
 pub mod Given
 pub mod Judging

@@ -7,6 +7,7 @@ use Rattle.clap.specs.Walk.{Row, Text}
 use Rattle.xb_text.specs.Writing.{AppendsBeginning}
 use Rattle.xb_command.specs.Answering.{answer_line, version_by}
 use Rattle.xb_command.specs.Answers.{IsAnswer, Takes}
+use Rattle.xb_command.specs.FaultTexts.{open_text}
 use Rattle.xb_command.specs.Files.{Bytes, IsNoText, IsUnreadable, OpensText, ReadsBytes}
 use Rattle.xb_command.specs.Programs.{OnlyTells, Streams}
 use Rattle.xb_command.specs.Telling.{Tells, no_memory_line}
@@ -71,7 +72,7 @@ pub record CannotOpen (program : Program) (bytes : Bytes) (from : Source) (old n
   pub unopened : IsUnopened bytes from fault
   pub input : Keeps old.input new.input
   pub output : Keeps old.output new.output
-  pub line : Tells program.name.now None old.errors new.errors
+  pub line : Tells program.name.now (open_text fault) old.errors new.errors
 
 -- what was done with the source, by its status
 pub record PerformsBy {Q : Type 0} (rules : Rules Q) (request : Q) (program : Program) (bytes : Bytes)

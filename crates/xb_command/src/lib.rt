@@ -45,4 +45,4 @@ pub use system::{Files, MOST_FILE_BYTES, SystemFiles, words_of_process};
 pub use table::{Call, FLAG, Program, VERSION, Value, Word};
 pub use telling::{DONE, FAULT, WORDS_REFUSED, tell_fault};
 pub use usage::help_of;
-pub use work::{Source, Work, attend, file_source, text_source};
+pub use work::{Given, Source, Work, attend, file_source, text_source};

@@ -1,5 +1,7 @@
 // A file that is opened by its name, and why it is not.
 ghost use Rattle.std.specs.Prelude.{◌≡◌, None, Some, IfErr, IfOk, IfSome, take};
+ghost use Rattle.std.specs.Fmt.{WritesOnOk};
+ghost use Rattle.xb_command.specs.FaultTexts.{one_line, sign_text};
 ghost use Rattle.xb_command.specs.Files.{IsNoText, IsUnreadable, OpensText, ReadsBytes, is_utf16, is_wav, no_text};
 
 use crate::system::Files;
@@ -11,38 +13,74 @@ use thiserror::Error;
 #[derive(Clone, Copy, Debug, PartialEq, Eq, Error)]
 pub enum NoText {
     /// Text in UTF-16, by its byte order mark.
-    #[error("it is UTF-16, and UTF-8 is taken: iconv -f UTF-16 -t UTF-8 makes that of it")]
     Utf16,
     /// Sound, by the beginning of a WAV file.
-    #[error("it is a sound, which mfrx and mfloop take")]
     Sound,
+}
+
+impl fmt::Display for NoText {
+    ghost use Rattle.xb_command.specs.FaultTexts.{no_text_text};
+
+    ghost output = { λ what. Some (no_text_text what) };
+
+    fn fmt<W: fmt::Write>(&self, f: &mut fmt::Formatter<W>) -> fmt::Result {
+        match self {
+            NoText::Utf16 => f.write_str(
+                "it is UTF-16, and UTF-8 is taken: iconv -f UTF-16 -t UTF-8 makes that of it",
+            ),
+            NoText::Sound => f.write_str("it is a sound, which mfrx and mfloop take"),
+        }
+    }
 }
 
 /// Why a file is not read: its name, in one line, and the reason.
 #[derive(Debug, Drop, Error)]
 pub enum OpenFault<'a> {
     /// The reason of the system.
-    #[error("{}: {}", InOneLine(.0), .1)]
     System(&'a str, io::Error),
     /// It is no text.
-    #[error("{}: {}", InOneLine(.0), .1)]
     NoText(&'a str, NoText),
+}
+
+impl<'a> fmt::Display for OpenFault<'a> {
+    ghost use Rattle.xb_command.specs.FaultTexts.{open_text};
+
+    ghost output = { open_text };
+
+    fn fmt<W: fmt::Write>(&self, f: &mut fmt::Formatter<W>) -> fmt::Result {
+        match self {
+            OpenFault::System(name, error) => write!(f, "{}: {error}", InOneLine(name)),
+            OpenFault::NoText(name, what) => write!(f, "{}: {what}", InOneLine(name)),
+        }
+    }
 }
 
 /// The name of a file in one line: a control character of it is told as `?`.
 #[derive(Clone, Copy)]
 pub struct InOneLine<'a>(pub &'a str);
 
+// Writes a character: a control character, as an LF or an escape, as `?`.
+fn write_sign<W: fmt::Write>(f: &mut fmt::Formatter<W>, sign: char) -> fmt::Result
+    ensures { WritesOnOk W.write_str_gives f.old result (sign_text sign) f.new }
+{
+    f.write_char(if sign.is_control() { '?' } else { sign })
+}
+
+// Writes a name in one line.
+fn write_one_line<W: fmt::Write>(f: &mut fmt::Formatter<W>, name: &str) -> fmt::Result
+    ensures { WritesOnOk W.write_str_gives f.old result (one_line name.now) f.new }
+{
+    for sign in name.chars() {
+        write_sign(f, sign)?;
+    }
+    Ok(())
+}
+
 impl<'a> fmt::Display for InOneLine<'a> {
+    ghost output = { λ name. Some (one_line name.0.now) };
+
     fn fmt<W: fmt::Write>(&self, f: &mut fmt::Formatter<W>) -> fmt::Result {
-        for character in self.0.chars() {
-            f.write_char(if character.is_control() {
-                '?'
-            } else {
-                character
-            })?;
-        }
-        Ok(())
+        write_one_line(f, self.0)
     }
 }
 

@@ -17,7 +17,7 @@ bell_after wait (run ∷ past) =
     bell_later (cond (is_open run.level) (bell_after wait past) (bell_with_make wait (bell_after wait past))) run.ticks
 
 -- a period that is counted down
-due_is : (t : ℕ) → is_due (66 - t) ≡ lasts_a_period t
+due_is : (t : ℕ) → is_due (68 - t) ≡ lasts_a_period t
 due_is t = grind (arith, nat_tests)
 
 -- a burst that is counted down
@@ -47,8 +47,8 @@ lacks_more :
     → periods_lacked (bell_after wait (hold_of Open r ∷ hold_of Closed m ∷ P))
     ≡ 8 - periods_at_end (hold_of Open r ∷ hold_of Closed m ∷ P)
 lacks_more wait m r P before =
-    let sum : (66 - m) - r ≡ 66 - (m + r) = omega arith in
-    let due : is_due ((66 - m) - r) ≡ lasts_a_period (m + r) = ap is_due sum ∙ due_is (m + r) in
+    let sum : (68 - m) - r ≡ 68 - (m + r) = omega arith in
+    let due : is_due ((68 - m) - r) ≡ lasts_a_period (m + r) = ap is_due sum ∙ due_is (m + r) in
     ap (λ b. cond b (periods_lacked (bell_after wait P) - 1) 8) due ∙ by (lasts_a_period (m + r))
   where
     by :

@@ -138,7 +138,7 @@ periods_count (period ∷ later) past are =
     let two : List Hold = hold_of Closed period.make ∷ hold_of Open period.rest ∷ [] in
     let sum : ℕ = period.make + period.rest in
     let lasts : lasts_a_period sum ≡ true =
-    and_from (nat_le 40 sum) (nat_le sum 65) (le-leb 40 sum are.0) (le-leb sum 65 are.1) in
+    and_from (nat_le 15 sum) (nat_le sum 67) (le-leb 15 sum are.0) (le-leb sum 67 are.1) in
     let one : periods_at_end (hold_of Open period.rest ∷ hold_of Closed period.make ∷ past) ≡ periods_at_end past + 1 =
     ap (λ b. cond b (periods_at_end past + 1) 0) lasts in
     let more = periods_count later (hold_of Open period.rest ∷ hold_of Closed period.make ∷ past) are.2 in

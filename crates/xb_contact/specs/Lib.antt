@@ -1,3 +1,4 @@
+pub mod FaultTexts
 pub mod Holds
 pub mod Settled
 pub mod Machine

@@ -52,7 +52,7 @@ rings (period ∷ later) = hold_of Closed period.make ∷ hold_of Open period.re
 abbrev pub ArePeriods : List Period → Type 0
 ArePeriods [] = Unit {0}
 ArePeriods (period ∷ later) =
-    (40 ≤ period.make + period.rest) × (period.make + period.rest ≤ 65) × ArePeriods later
+    (15 ≤ period.make + period.rest) × (period.make + period.rest ≤ 67) × ArePeriods later
 
 -- 8 periods in a row, and more, are a burst, and an answer counts then
 abbrev pub CountsAfterBursts : Type 0

@@ -12,6 +12,8 @@ levels_of wire (events.Ticks scale ∷ rest) = levels_of wire rest
 levels_of wire (events.At tick ∷ rest) = levels_of wire rest
 levels_of wire (events.Level other level ∷ rest) =
     if other == wire then level ∷ levels_of wire rest else levels_of wire rest
+levels_of wire (events.Edge other level ∷ rest) =
+    if other == wire then level ∷ levels_of wire rest else levels_of wire rest
 
 -- how many of them are the same as the one before
 abbrev pub repeats_after : Level → List Level → ℕ

@@ -18,9 +18,9 @@ silent = bell_of 0 8 0
 abbrev pub bell_later : Bell → ℕ → Bell
 bell_later bell ticks = bell_of (bell.period - ticks) bell.lacks (bell.waits - ticks)
 
--- the last make began 40 to 65 ms ago, which is counted down from 66
+-- the last make began 15 to 67 ms ago, which is counted down from 68
 abbrev pub is_due : ℕ → Bool
-is_due period = nat_lt 0 period && nat_le period 26
+is_due period = nat_lt 0 period && nat_le period 53
 
 -- how many periods a burst lacks where another make begins
 abbrev pub periods_lacked : Bell → ℕ
@@ -29,7 +29,7 @@ periods_lacked bell = if is_due bell.period then bell.lacks - 1 else 8
 -- another make begins
 abbrev pub bell_with_make : ℕ → Bell → Bell
 bell_with_make wait bell =
-    bell_of 66 (periods_lacked bell) (if periods_lacked bell == 0 then wait else bell.waits)
+    bell_of 68 (periods_lacked bell) (if periods_lacked bell == 0 then wait else bell.waits)
 
 -- how it is listened to; the level of the last hold, and that at which the makes of the call are given; what the line
 -- lacks of a break to be on hook, and of a make to be off hook; and what was heard of its bell
@@ -94,6 +94,10 @@ make_lasts line ticks =
 
 abbrev pub in_make : Ringing → ℕ → Ringing
 in_make line ticks = make_lasts (with_make_on line) ticks
+
+-- whether the line is in a call that answers the bell
+abbrev pub is_answering : Ringing → Bool
+is_answering line = nat_lt 0 line.lacks && is_open line.call
 
 -- what is given of a hold, and the line then
 pub record Rung : Type 0 where

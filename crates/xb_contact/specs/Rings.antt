@@ -6,9 +6,9 @@ use Rattle.xb_contact.specs.declared.hold.Hold.{Hold}
 use Rattle.xb_contact.specs.Holds.{hold_of, runs_of}
 use Rattle.xb_contact.specs.Seizures.{is_open, is_short_on_hook}
 
--- a period of ringing is a make and the break after it that last 40 to 65 ms together
+-- a period of ringing is a make and the break after it that last 15 to 67 ms together
 abbrev pub lasts_a_period : ℕ → Bool
-lasts_a_period ticks = nat_le 40 ticks && nat_le ticks 65
+lasts_a_period ticks = nat_le 15 ticks && nat_le ticks 67
 
 abbrev pub is_period : Hold → Hold → Bool
 is_period make rest =

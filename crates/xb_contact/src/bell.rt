@@ -2,11 +2,11 @@
 ghost use Rattle.std.specs.Prelude.{◌≡◌};
 ghost use Rattle.xb_contact.specs.Ringing.{bell_later, bell_with_make, is_due, periods_lacked, silent};
 
-// A period of ringing, a make and the break after it, lasts 40 to 65 ms. It is counted down from `TOO_LONG`, so at least
+// A period of ringing, a make and the break after it, lasts 15 to 67 ms. It is counted down from `TOO_LONG`, so at least
 // 1 and at most `LEFT_OF_SHORTEST` is left of it where the next make begins.
-const TOO_LONG: u64 = 66;
+const TOO_LONG: u64 = 68;
 
-const LEFT_OF_SHORTEST: u64 = 26;
+const LEFT_OF_SHORTEST: u64 = 53;
 
 // So many periods in a row are a burst.
 const PERIODS: u64 = 8;

@@ -1,6 +1,6 @@
 // A line whose bell may ring.
 ghost use Rattle.std.specs.Prelude.{◌≡◌};
-ghost use Rattle.xb_contact.specs.Ringing.{begun_ringing, call_level, in_break, in_make, make_lasts, rung, with_make_on, with_next_make};
+ghost use Rattle.xb_contact.specs.Ringing.{begun_ringing, call_level, in_break, in_make, is_answering, make_lasts, rung, with_make_on, with_next_make};
 ghost use Rattle.xb_contact.specs.RingingLaws.{PassesTheAnswered};
 
 use crate::bell::Bell;
@@ -14,7 +14,7 @@ pub const ANSWER_MS: u32 = 4500;
 
 /// A line whose bell may ring: it takes holds as they come, in ms, and gives each at once, as it is, or as a break where
 /// it is of a call that answers the bell. On hook, 8 periods in a row and more are a burst, each a make and a
-/// break of 40 to 65 ms together. A call answers it whose first make begins while an answer counts; until
+/// break of 15 to 67 ms together. A call answers it whose first make begins while an answer counts; until
 /// then each make on hook is given as a break. Memory does not grow with the recording.
 #[derive(Debug, Drop)]
 pub struct Ringer {
@@ -71,6 +71,13 @@ impl Ringer {
             wants: 0,
             bell: Bell::silent(),
         }
+    }
+
+    /// Whether the line is in a call that answers the bell: it took the line off hook, and is given as a break.
+    pub fn is_answering(&self) -> bool
+        ensures { result ≡ is_answering self.now }
+    {
+        self.lacks > 0 && self.call == Level::Open
     }
 
     // A break that lasts.

@@ -11,20 +11,20 @@ use Rattle.xb_contact.specs.declared.level.Level.{Level}
 use Rattle.xb_contact.specs.Repeats.{levels_of}
 use Rattle.xb_contact.specs.Steps.{Said, is_before, result_and_then, result_map, then_later}
 use Rattle.xb_csv.specs.Cells.{trimmed}
-use Rattle.xb_csv.specs.Gpiomons.{EdgeSaid, GpiomonState, edge_of, edge_says, first_kind, first_word, gpiomon_by, gpiomon_line_says, gpiomon_says, levels_after, named_levels, names_wire, second_kind, time_said}
+use Rattle.xb_csv.specs.Gpiomons.{EdgeSaid, GpiomonState, edge_of, edge_says, first_kind, first_word, gpiomon_by, gpiomon_line_says, gpiomon_says, levels_after, named_edges, names_wire, second_kind, time_said}
 use Rattle.xb_csv.specs.LostEdges.{edge_levels, levels_by}
 use Rattle.xb_csv.specs.Seconds.{nanoseconds_of}
 
 -- what is said of a wire by the wires that a text names: of one before them nothing, and else that of its own name
 named-later :
     (wire i : ℕ) (text : List ℕ) (level : Level) (names : List (List ℕ)) → wire < i
-    → levels_of wire (named_levels i text level names) ≡ []
+    → levels_of wire (named_edges i text level names) ≡ []
 named-later wire i text level [] below = refl
 named-later wire i text level (name ∷ rest) below =
-    let more : List Event = named_levels (i + 1) text level rest in
+    let more : List Event = named_edges (i + 1) text level rest in
     let later : levels_of wire more ≡ [] = named-later wire (i + 1) text level rest (omega arith) in
     let other : (i == wire) ≡ false = ne_eqb i wire (λ e. absurd (omega arith)) in
-    elim (names_wire name text) as (λ t. levels_of wire (cond t (events.Level i level ∷ more) more) ≡ []) [
+    elim (names_wire name text) as (λ t. levels_of wire (cond t (events.Edge i level ∷ more) more) ≡ []) [
       | true ↦ ap (λ t. cond t (level ∷ levels_of wire more) (levels_of wire more)) other ∙ later
       | false ↦ later
     ]
@@ -32,43 +32,53 @@ named-later wire i text level (name ∷ rest) below =
 named-own :
     (wire i : ℕ) (text : List ℕ) (level : Level) (names : List (List ℕ)) (name : List ℕ)
     → slice_get names wire ≡ Some name
-    → levels_of (i + wire) (named_levels i text level names) ≡ cond (names_wire name text) (level ∷ []) []
+    → levels_of (i + wire) (named_edges i text level names) ≡ cond (names_wire name text) (level ∷ []) []
 named-own wire i text level [] name there = cc
 named-own zero i text level (own ∷ rest) name there =
-    let more : List Event = named_levels (i + 1) text level rest in
+    let more : List Event = named_edges (i + 1) text level rest in
     let is : own ≡ name = cc in
     let at : i + 0 ≡ i = omega arith in
     let here : (i == i) ≡ true = eq-eqb i i refl in
     let later : levels_of i more ≡ [] = named-later i (i + 1) text level rest (omega arith) in
-    ap (λ w. levels_of w (named_levels i text level (own ∷ rest))) at
-    ∙ elim (names_wire own text) as (λ t. levels_of i (cond t (events.Level i level ∷ more) more) ≡ cond t (level ∷ []) []) [
+    ap (λ w. levels_of w (named_edges i text level (own ∷ rest))) at
+    ∙ elim (names_wire own text) as (λ t. levels_of i (cond t (events.Edge i level ∷ more) more) ≡ cond t (level ∷ []) []) [
       | true ↦ ap (λ t. cond t (level ∷ levels_of i more) (levels_of i more)) here ∙ ap (λ l. level ∷ l) later
       | false ↦ later
     ]
     ∙ ap (λ n. cond (names_wire n text) (level ∷ []) []) is
 named-own (suc wire) i text level (own ∷ rest) name there =
-    let more : List Event = named_levels (i + 1) text level rest in
+    let more : List Event = named_edges (i + 1) text level rest in
     let at : i + 1 + wire ≡ i + suc wire = omega arith in
     let later : levels_of (i + suc wire) more ≡ cond (names_wire name text) (level ∷ []) [] =
     ap (λ w. levels_of w more) (sym at) ∙ named-own wire (i + 1) text level rest name there in
     let other : (i == (i + suc wire)) ≡ false = ne_eqb i (i + suc wire) (λ e. absurd (omega arith)) in
-    elim (names_wire own text) as (λ t. levels_of (i + suc wire) (cond t (events.Level i level ∷ more) more) ≡ cond (names_wire name text) (level ∷ []) []) [
+    elim (names_wire own text) as (λ t. levels_of (i + suc wire) (cond t (events.Edge i level ∷ more) more) ≡ cond (names_wire name text) (level ∷ []) []) [
       | true ↦ ap (λ t. cond t (level ∷ levels_of (i + suc wire) more) (levels_of (i + suc wire) more)) other ∙ later
       | false ↦ later
     ]
 
 -- what is said of a wire one after the other
+one-more :
+    (wire other : ℕ) (level : Level) (said later : List Event)
+    → levels_of wire (said ++ later) ≡ levels_of wire said ++ levels_of wire later
+    → cond (other == wire) (level ∷ levels_of wire (said ++ later)) (levels_of wire (said ++ later))
+    ≡ cond (other == wire) (level ∷ levels_of wire said) (levels_of wire said) ++ levels_of wire later
+one-more wire other level said later rest = by (other == wire)
+  where
+    by :
+        (b : Bool)
+        → cond b (level ∷ levels_of wire (said ++ later)) (levels_of wire (said ++ later))
+        ≡ cond b (level ∷ levels_of wire said) (levels_of wire said) ++ levels_of wire later
+    by true = ap (λ l. level ∷ l) rest
+    by false = rest
+
 levels-append :
     (wire : ℕ) (said later : List Event) → levels_of wire (said ++ later) ≡ levels_of wire said ++ levels_of wire later
 levels-append wire [] later = refl
 levels-append wire (events.Ticks scale ∷ said) later = levels-append wire said later
 levels-append wire (events.At tick ∷ said) later = levels-append wire said later
-levels-append wire (events.Level other level ∷ said) later =
-    let rest : levels_of wire (said ++ later) ≡ levels_of wire said ++ levels_of wire later = levels-append wire said later in
-    elim (other == wire) as (λ t. cond t (level ∷ levels_of wire (said ++ later)) (levels_of wire (said ++ later)) ≡ cond t (level ∷ levels_of wire said) (levels_of wire said) ++ levels_of wire later) [
-      | true ↦ ap (λ l. level ∷ l) rest
-      | false ↦ rest
-    ]
+levels-append wire (events.Level other level ∷ said) later = one-more wire other level said later (levels-append wire said later)
+levels-append wire (events.Edge other level ∷ said) later = one-more wire other level said later (levels-append wire said later)
 
 time-quiet :
     (wire : ℕ) (last : Option ℕ) (time : ℕ) (said : List Event) → levels_of wire (time_said last time ++ said) ≡ levels_of wire said
@@ -82,7 +92,7 @@ pub record IsEdge
   pub new : List (Option Level)
   pub order : is_before time last ≡ false
   pub taken : levels_after lossy edge.wire edge.level names levels ≡ Ok new
-  pub is : said ≡ (time_said last time ++ named_levels 0 edge.wire edge.level names, gpiomon_by lossy names new (Some time))
+  pub is : said ≡ (time_said last time ++ named_edges 0 edge.wire edge.level names, gpiomon_by lossy names new (Some time))
 
 edge-is :
     (lossy : Bool) (names : List (List ℕ)) (levels : List (Option Level)) (last : Option ℕ) (edge : EdgeSaid) (time : ℕ)
@@ -94,12 +104,12 @@ edge-is lossy names levels last edge time said e =
     at :
         (before : Bool) (after : Result (List (Option Level)) Refusal) → is_before time last ≡ before
         → levels_after lossy edge.wire edge.level names levels ≡ after
-        → cond before (Err refusals.Backwards) (result_map (λ new. (time_said last time ++ named_levels 0 edge.wire edge.level names, gpiomon_by lossy names new (Some time))) after) ≡ Ok said
+        → cond before (Err refusals.Backwards) (result_map (λ new. (time_said last time ++ named_edges 0 edge.wire edge.level names, gpiomon_by lossy names new (Some time))) after) ≡ Ok said
         → IsEdge lossy names levels last edge time said
     at true after order taken e = cc
     at false (Err refusal) order taken e = cc
     at false (Ok new) order taken e =
-        let is : (time_said last time ++ named_levels 0 edge.wire edge.level names, gpiomon_by lossy names new (Some time)) ≡ said = cc in
+        let is : (time_said last time ++ named_edges 0 edge.wire edge.level names, gpiomon_by lossy names new (Some time)) ≡ said = cc in
         record { new = new; order = order; taken = taken; is = sym is }
 
 -- a line that was said: it is empty, or an edge
@@ -190,8 +200,8 @@ line-levels lossy names levels last line said wire name there (inl empty) =
     ∙ sym (ap (λ t. levels_by name (edge_of t)) (is_empty (trimmed line) empty.0) ∙ ap (levels_by name) no_edge)
 line-levels lossy names levels last line said wire name there (inr it) =
     ap (λ s. levels_of wire s.0) it.is.is
-    ∙ time-quiet wire last it.time (named_levels 0 it.edge.wire it.edge.level names)
-    ∙ ap (λ w. levels_of w (named_levels 0 it.edge.wire it.edge.level names)) (sym (zero-add wire))
+    ∙ time-quiet wire last it.time (named_edges 0 it.edge.wire it.edge.level names)
+    ∙ ap (λ w. levels_of w (named_edges 0 it.edge.wire it.edge.level names)) (sym (zero-add wire))
     ∙ named-own wire 0 it.edge.wire it.edge.level names name there
     ∙ sym (ap (levels_by name) it.found)
 

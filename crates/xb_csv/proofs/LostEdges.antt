@@ -12,7 +12,7 @@ use Rattle.xb_contact.specs.Repeats.{repeats_after, repeats_in}
 use Rattle.xb_contact.specs.Steps.{Said, is_before, result_and_then, result_map, then_later}
 use Rattle.xb_contact.proofs.StepLemmas.{line_says}
 use Rattle.xb_csv.specs.Cells.{trimmed}
-use Rattle.xb_csv.specs.Gpiomons.{EdgeSaid, GpiomonState, edge_line_says, edge_of, edge_says, edge_taken, gpiomon_by, gpiomon_ends, gpiomon_line_says, gpiomon_says, level_taken, levels_after, named_levels, names_wire, time_said}
+use Rattle.xb_csv.specs.Gpiomons.{EdgeSaid, GpiomonState, edge_line_says, edge_of, edge_says, edge_taken, gpiomon_by, gpiomon_ends, gpiomon_line_says, gpiomon_says, level_taken, levels_after, named_edges, names_wire, time_said}
 use Rattle.xb_csv.specs.LostEdges.{LostEdgesAreSaid, edge_levels, levels_by}
 use Rattle.xb_csv.specs.Seconds.{nanoseconds_of}
 use Rattle.xb_csv.proofs.EdgeLines.{AreSaid, IsEdgeLine, IsEmpty, edges_said, is_empty, line_is, lines_are, no_edge, state_after}
@@ -181,7 +181,7 @@ lossy-edge :
     ≡ Ok (said.0, gpiomon_by true names it.is.new (Some it.time))
 lossy-edge names levels last line said it =
     let state : GpiomonState = gpiomon_by true names levels last in
-    let all : List Event = time_said last it.time ++ named_levels 0 it.edge.wire it.edge.level names in
+    let all : List Event = time_said last it.time ++ named_edges 0 it.edge.wire it.edge.level names in
     ap (λ t. cond t (Ok ([], state)) (edge_line_says state (trimmed line))) it.some
     ∙ ap (λ found. result_and_then (λ edge. result_and_then (λ time. edge_says state edge time) (ok_or (nanoseconds_of edge.time) refusals.Time)) (ok_or found refusals.Edge)) it.found
     ∙ ap (λ clock. result_and_then (λ time. edge_says state it.edge time) (ok_or clock refusals.Time)) it.clock
@@ -265,7 +265,7 @@ other-edge names levels last edge time refusal e =
   where
     at :
         (before : Bool) (after : Result (List (Option Level)) Refusal) (new : List (Option Level)) → after ≡ Ok new
-        → cond {A = Said GpiomonState} before (Err refusals.Backwards) (result_map (λ new. (time_said last time ++ named_levels 0 edge.wire edge.level names, gpiomon_by true names new (Some time))) after) ≡ Err refusal
+        → cond {A = Said GpiomonState} before (Err refusals.Backwards) (result_map (λ new. (time_said last time ++ named_edges 0 edge.wire edge.level names, gpiomon_by true names new (Some time))) after) ≡ Err refusal
         → IsOther refusal
     at true after new taken e lost = cc
     at false (Err own) new taken e lost = cc

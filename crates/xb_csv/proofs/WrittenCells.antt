@@ -16,7 +16,7 @@ use Rattle.xb_contact.specs.Changes.{IsName}
 use Rattle.xb_contact.specs.Steps.{is_before, result_and_then, result_map, then_later}
 use Rattle.xb_contact.proofs.StepLemmas.{line_says}
 use Rattle.xb_contact.proofs.Written.{AreOthers, others_differ, same_bytes}
-use Rattle.xb_csv.specs.declared.clock.Clock.{Clock}
+use Rattle.xb_csv.specs.declared.row_times.Clock.{Clock}
 use Rattle.xb_csv.specs.declared.columns.TableForm.{TableForm}
 use Rattle.xb_csv.specs.Cells.{cell_number, cells_of, stands_after, trimmed}
 use Rattle.xb_csv.specs.Tables.{TableState, column_by, column_of, columns_before, columns_for, columns_in, level_in, levels_from, line_of_form, row_at, row_says, row_time, table_ends, table_line_says, table_says}

@@ -12,9 +12,9 @@ use Rattle.xb_contact.specs.Steps.{is_before, result_and_then, said_before, then
 use Rattle.xb_contact.specs.Times.{scale_by}
 use Rattle.xb_contact.proofs.StepLemmas.{line_is_quiet, line_says}
 use Rattle.xb_contact.proofs.Written.{number_is_read}
-use Rattle.xb_csv.specs.declared.clock.Clock.TheVariants as clocks
+use Rattle.xb_csv.specs.declared.row_times.Clock.TheVariants as clocks
 use Rattle.xb_csv.specs.declared.columns.TableForm.TheVariants as forms
-use Rattle.xb_csv.specs.declared.periods.CutTimes.{CutTimes}
+use Rattle.xb_csv.specs.declared.sample_periods.CutTimes.{CutTimes}
 use Rattle.xb_csv.specs.Tables.{TableState, begins_rows, comment_says, counts_periods, cut_by, first_time, in_periods, row_says, scale_of_units, table_ends, table_line_says, times_decided}
 use Rattle.xb_csv.specs.Written.{TableRow, level_text, levels_said}
 use Rattle.xb_csv.specs.WrittenTables.{AreAmong, SigrokCutTimesAreRead, cells_line, cut_period, hertz, levels_at, logic_labels, names_at, time_label, timed_lines}

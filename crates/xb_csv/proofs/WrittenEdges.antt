@@ -16,14 +16,14 @@ use Rattle.xb_contact.specs.declared.event.Refusal.TheVariants as refusals
 use Rattle.xb_contact.specs.declared.level.Level.{Level}
 use Rattle.xb_contact.specs.declared.level.Level.TheVariants.{Open, Closed}
 use Rattle.xb_contact.specs.declared.scale.TheConstants.{NANOSECONDS}
-use Rattle.xb_contact.specs.Changes.{AreInOrder, AreNames, Change, IsName, change_events}
+use Rattle.xb_contact.specs.Changes.{AreInOrder, AreNames, Change, IsName}
 use Rattle.xb_contact.specs.Numbers.{number_of}
 use Rattle.xb_contact.specs.Steps.{is_before, result_and_then, result_map, then_later}
 use Rattle.xb_contact.proofs.StepLemmas.{line_says}
 use Rattle.xb_contact.proofs.Written.{AreOthers, all_weaker, digits_are, never_after_end, one_of, others_differ, same_bytes}
 use Rattle.xb_csv.specs.Cells.{trimmed, trimmed_end}
-use Rattle.xb_csv.specs.Gpiomons.{EdgeSaid, GpiomonState, cut_word, edge_line_says, edge_of, edge_says, edge_taken, edge_with, first_kind, first_word, gpiomon_by, gpiomon_ends, gpiomon_line_says, gpiomon_says, gpiomon_with, is_gap, is_name, is_numbered, level_after, levels_after, named_levels, names_by, names_wire, second_kind, time_said, between}
-use Rattle.xb_csv.specs.Written.{WrittenEdgesAreRead, are_edges, edge_line, edge_lines, next_differs, seconds_text, way_text}
+use Rattle.xb_csv.specs.Gpiomons.{EdgeSaid, GpiomonState, cut_word, edge_line_says, edge_of, edge_says, edge_taken, edge_with, first_kind, first_word, gpiomon_by, gpiomon_ends, gpiomon_line_says, gpiomon_says, gpiomon_with, is_gap, is_name, is_numbered, level_after, levels_after, named_edges, names_by, names_wire, second_kind, time_said, between}
+use Rattle.xb_csv.specs.Written.{WrittenEdgesAreRead, are_edges, edge_line, edge_lines, edges_said, next_differs, seconds_text, way_text}
 use Rattle.xb_csv.proofs.TurnLemmas.{AreFollowed, none_followed, turn_followed, turn_taken}
 use Rattle.xb_csv.proofs.WrittenSeconds.{no_place, place_of, seconds_are_read, seconds_nonempty, seconds_pass, seconds_start}
 use Rattle.xb_csv.specs.Seconds.{nanoseconds_of}
@@ -202,34 +202,34 @@ second-read tick level name small is =
 -- the wires that a text after a chip names
 named-none :
     (i : ℕ) (name : List ℕ) (level : Level) (names : List (List ℕ)) → IsName name → AllByRecursion IsName names
-    → AreOthers name names → named_levels i (codes "gpiochip0 " ++ name) level names ≡ []
+    → AreOthers name names → named_edges i (codes "gpiochip0 " ++ name) level names ≡ []
 named-none i name level [] is words all = refl
 named-none i name level (own ∷ names) is words all =
-    let rest = named_levels (i + 1) (codes "gpiochip0 " ++ name) level names in
-    ap (λ t. cond t (events.Level i level ∷ rest) rest) (chip-named own name words.0 is ∙ all.0)
+    let rest = named_edges (i + 1) (codes "gpiochip0 " ++ name) level names in
+    ap (λ t. cond t (events.Edge i level ∷ rest) rest) (chip-named own name words.0 is ∙ all.0)
     ∙ named-none (i + 1) name level names is words.1 all.1
 
 named-one :
     (i : ℕ) (name : List ℕ) (level : Level) (before after : List (List ℕ)) → IsName name
     → AllByRecursion IsName (before ++ name ∷ after) → AreOthers name before → AreOthers name after
-    → named_levels i (codes "gpiochip0 " ++ name) level (before ++ name ∷ after) ≡ events.Level (i + length before) level ∷ []
+    → named_edges i (codes "gpiochip0 " ++ name) level (before ++ name ∷ after) ≡ events.Edge (i + length before) level ∷ []
 named-one i name level [] after is words first last =
-    let rest = named_levels (i + 1) (codes "gpiochip0 " ++ name) level after in
+    let rest = named_edges (i + 1) (codes "gpiochip0 " ++ name) level after in
     let here : i ≡ i + 0 = omega arith in
-    ap (λ t. cond t (events.Level i level ∷ rest) rest) (chip-named name name is is ∙ same_bytes name)
-    ∙ ap (λ later. events.Level i level ∷ later) (named-none (i + 1) name level after is words.1 last)
-    ∙ ap (λ k. events.Level k level ∷ []) here
+    ap (λ t. cond t (events.Edge i level ∷ rest) rest) (chip-named name name is is ∙ same_bytes name)
+    ∙ ap (λ later. events.Edge i level ∷ later) (named-none (i + 1) name level after is words.1 last)
+    ∙ ap (λ k. events.Edge k level ∷ []) here
 named-one i name level (own ∷ before) after is words first last =
-    let rest = named_levels (i + 1) (codes "gpiochip0 " ++ name) level (before ++ name ∷ after) in
+    let rest = named_edges (i + 1) (codes "gpiochip0 " ++ name) level (before ++ name ∷ after) in
     let there : i + 1 + length before ≡ i + length (own ∷ before) = omega arith in
-    ap (λ t. cond t (events.Level i level ∷ rest) rest) (chip-named own name words.0 is ∙ first.0)
+    ap (λ t. cond t (events.Edge i level ∷ rest) rest) (chip-named own name words.0 is ∙ first.0)
     ∙ named-one (i + 1) name level before after is words.1 first.1 last
-    ∙ ap (λ k. events.Level k level ∷ []) there
+    ∙ ap (λ k. events.Edge k level ∷ []) there
 
 pub own_name :
     (names : List (List ℕ)) (wire : ℕ) (level : Level) → AreNames names → wire < length names
     → IsName (get_or names wire [])
-    × (named_levels 0 (codes "gpiochip0 " ++ get_or names wire []) level names ≡ events.Level wire level ∷ [])
+    × (named_edges 0 (codes "gpiochip0 " ++ get_or names wire []) level names ≡ events.Edge wire level ∷ [])
 own_name names wire level lawful within =
     let name : List ℕ = get_or names wire [] in
     let before : List (List ℕ) = take wire names in
@@ -242,8 +242,8 @@ own_name names wire level lawful within =
     let apart = others_differ name before after (subst Q all lawful.distinct) in
     let count : 0 + length before ≡ wire = omega (arith, length-take-le wire names (omega arith)) in (
       is,
-      ap (named_levels 0 (codes "gpiochip0 " ++ name) level) all ∙ named-one 0 name level before after is words apart.0 apart.1
-          ∙ ap (λ k. events.Level k level ∷ []) count,
+      ap (named_edges 0 (codes "gpiochip0 " ++ name) level) all ∙ named-one 0 name level before after is words apart.0 apart.1
+          ∙ ap (λ k. events.Edge k level ∷ []) count,
     )
 
 -- the levels of wires after an edge: that of other ones, and of its own
@@ -326,7 +326,7 @@ line-read :
     → edge.wire < length names → 2 ^ 62 ≤ edge.tick → edge.tick < 2 ^ 63 → is_before edge.tick last ≡ false
     → levels_after lossy (codes "gpiochip0 " ++ get_or names edge.wire []) edge.level names levels ≡ Ok new
     → gpiomon_line_says (gpiomon_by lossy names levels last) (edge_line names edge)
-    ≡ Ok (time_said last edge.tick ++ events.Level edge.wire edge.level ∷ [], gpiomon_by lossy names new (Some edge.tick))
+    ≡ Ok (time_said last edge.tick ++ events.Edge edge.wire edge.level ∷ [], gpiomon_by lossy names new (Some edge.tick))
 line-read lossy names levels new last edge lawful within late early order taken =
     let name : List ℕ = get_or names edge.wire [] in
     let own = own_name names edge.wire edge.level lawful within in
@@ -349,8 +349,8 @@ line-read lossy names levels new last edge lawful within late early order taken 
     ∙ ap (λ t. cond t (Ok ([], state)) (edge_line_says state line)) (ne_eqb (length line) 0 (λ e. absurd (omega (arith, some))))
     ∙ ap (λ found. result_and_then (λ edge. result_and_then (λ time. edge_says state edge time) (ok_or (nanoseconds_of edge.time) refusals.Time)) (ok_or found refusals.Edge)) read
     ∙ ap (λ found. result_and_then (λ time. edge_says state (edge_with (seconds_text edge.tick) chip edge.level) time) (ok_or found refusals.Time)) (seconds_are_read edge.tick late early)
-    ∙ ap (λ t. cond t (Err refusals.Backwards) (result_map (λ now. (said ++ named_levels 0 chip edge.level names, gpiomon_by lossy names now (Some edge.tick))) (levels_after lossy chip edge.level names levels))) order
-    ∙ ap (result_map (λ now. (said ++ named_levels 0 chip edge.level names, gpiomon_by lossy names now (Some edge.tick)))) taken
+    ∙ ap (λ t. cond t (Err refusals.Backwards) (result_map (λ now. (said ++ named_edges 0 chip edge.level names, gpiomon_by lossy names now (Some edge.tick))) (levels_after lossy chip edge.level names levels))) order
+    ∙ ap (result_map (λ now. (said ++ named_edges 0 chip edge.level names, gpiomon_by lossy names now (Some edge.tick)))) taken
     ∙ ap (λ named. Ok (said ++ named, gpiomon_by lossy names new (Some edge.tick))) own.1
 
 -- the edges after one at this tick
@@ -358,7 +358,7 @@ rest-read :
     (lossy : Bool) (names : List (List ℕ)) (levels : List (Option Level)) (tick end : ℕ) (edges : List Change) → AreNames names
     → are_edges edges ≡ true → AreInOrder (length names) tick edges end → length levels ≡ length names
     → AreFollowed levels edges → 2 ^ 62 ≤ tick → end < 2 ^ 63
-    → gpiomon_says (gpiomon_by lossy names levels (Some tick)) (edge_lines names edges) ≡ Ok (change_events edges)
+    → gpiomon_says (gpiomon_by lossy names levels (Some tick)) (edge_lines names edges) ≡ Ok (edges_said edges)
 rest-read lossy names levels tick end [] lawful turns order same follows late early = refl
 rest-read lossy names levels tick end (edge ∷ rest) lawful turns order same follows late early =
     let after : edge.tick ≤ end = never_after_end (length names) edge.tick rest end order.2 in
@@ -368,9 +368,9 @@ rest-read lossy names levels tick end (edge ∷ rest) lawful turns order same fo
     let said : List Event = events.At edge.tick ∷ [] in
     let times : is_before edge.tick (Some tick) ≡ false = grind (arith, nat_tests) in
     line_says gpiomon_line_says gpiomon_ends (gpiomon_by lossy names levels (Some tick)) (gpiomon_by lossy names taken.0 (Some edge.tick))
-    (edge_line names edge) (edge_lines names rest) (said ++ events.Level edge.wire edge.level ∷ [])
+    (edge_line names edge) (edge_lines names rest) (said ++ events.Edge edge.wire edge.level ∷ [])
     (line-read lossy names levels taken.0 (Some tick) edge lawful order.0 (omega arith) (omega arith) times taken.1)
-    ∙ ap (then_later (said ++ events.Level edge.wire edge.level ∷ []))
+    ∙ ap (then_later (said ++ events.Edge edge.wire edge.level ∷ []))
     (rest-read lossy names taken.0 edge.tick end rest lawful parts.1 order.2 taken.2 taken.3 (omega arith) early)
 
 pub written_edges_are_read : WrittenEdgesAreRead
@@ -384,7 +384,7 @@ written_edges_are_read lossy names (edge ∷ rest) end lawful turns order early 
     let taken = edge-taken lossy names levels edge rest lawful order.0 same turns (none_followed (length names) (edge ∷ rest)) in
     let said : List Event = events.Ticks NANOSECONDS ∷ events.At edge.tick ∷ [] in
     line_says gpiomon_line_says gpiomon_ends (gpiomon_with lossy names None) (gpiomon_by lossy names taken.0 (Some edge.tick))
-    (edge_line names edge) (edge_lines names rest) (said ++ events.Level edge.wire edge.level ∷ [])
+    (edge_line names edge) (edge_lines names rest) (said ++ events.Edge edge.wire edge.level ∷ [])
     (line-read lossy names levels taken.0 None edge lawful order.0 late (omega arith) refl taken.1)
-    ∙ ap (then_later (said ++ events.Level edge.wire edge.level ∷ []))
+    ∙ ap (then_later (said ++ events.Edge edge.wire edge.level ∷ []))
     (rest-read lossy names taken.0 edge.tick end rest lawful parts.1 order.2 taken.2 taken.3 late early)

@@ -14,7 +14,7 @@ use Rattle.xb_contact.specs.Changes.{IsName}
 use Rattle.xb_contact.specs.Steps.{is_before, result_and_then, result_map, said_before, then_later}
 use Rattle.xb_contact.proofs.StepLemmas.{line_says}
 use Rattle.xb_contact.proofs.Written.{number_is_read}
-use Rattle.xb_csv.specs.declared.clock.Clock.TheVariants as clocks
+use Rattle.xb_csv.specs.declared.row_times.Clock.TheVariants as clocks
 use Rattle.xb_csv.specs.declared.columns.TableForm.TheVariants as forms
 use Rattle.xb_csv.specs.Cells.{cells_of, trimmed}
 use Rattle.xb_csv.specs.Seconds.{nanoseconds_of}

@@ -10,7 +10,7 @@ use Rattle.xb_contact.specs.declared.scale.TheConstants.{NANOSECONDS}
 use Rattle.xb_contact.specs.Changes.{IsName}
 use Rattle.xb_contact.specs.Steps.{is_before, result_and_then, then_later}
 use Rattle.xb_contact.proofs.StepLemmas.{line_says}
-use Rattle.xb_csv.specs.declared.clock.Clock.TheVariants as clocks
+use Rattle.xb_csv.specs.declared.row_times.Clock.TheVariants as clocks
 use Rattle.xb_csv.specs.declared.columns.TableForm.TheVariants as forms
 use Rattle.xb_csv.specs.Cells.{cells_of}
 use Rattle.xb_csv.specs.Tables.{TableState, begins_rows, begun_table, columns_in, is_remark, is_seconds, saleae_begins, table_ends, table_line_says}

@@ -19,7 +19,7 @@ use Rattle.xb_contact.specs.Steps.{is_before, result_and_then, result_map, then_
 use Rattle.xb_contact.specs.Times.{scale_by}
 use Rattle.xb_contact.proofs.StepLemmas.{line_is_quiet, line_says}
 use Rattle.xb_contact.proofs.Written.{digits_are, number_is_read}
-use Rattle.xb_csv.specs.declared.clock.Clock.TheVariants as clocks
+use Rattle.xb_csv.specs.declared.row_times.Clock.TheVariants as clocks
 use Rattle.xb_csv.specs.declared.columns.TableForm.TheVariants as forms
 use Rattle.xb_csv.specs.Cells.{cells_of, trimmed}
 use Rattle.xb_csv.specs.Seconds.{fitting, fraction_of, point_parts}

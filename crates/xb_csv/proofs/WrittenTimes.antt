@@ -10,7 +10,7 @@ use Rattle.xb_contact.specs.Numbers.{is_digit}
 use Rattle.xb_contact.specs.Steps.{is_before, then_later}
 use Rattle.xb_contact.proofs.StepLemmas.{line_says}
 use Rattle.xb_contact.proofs.Written.{digits_are, number_is_read}
-use Rattle.xb_csv.specs.declared.clock.Clock.TheVariants as clocks
+use Rattle.xb_csv.specs.declared.row_times.Clock.TheVariants as clocks
 use Rattle.xb_csv.specs.declared.columns.TableForm.TheVariants as forms
 use Rattle.xb_csv.specs.Tables.{TableState, begins_rows, comment_says, cut_by, cut_times, is_comment, row_says, scale_of_units, sigrok_by_units, table_ends, table_line_says, times_begin, units_of_label}
 use Rattle.xb_csv.specs.Written.{TableRow, level_text, levels_said}

@@ -164,25 +164,25 @@ levels_after lossy text level (name ∷ names) (own ∷ rest) =
     result_and_then (λ now. result_map (λ later. now ∷ later) (levels_after lossy text level names rest))
     (level_taken lossy text level name own)
 
--- the wires that a text names, from this one on, have a level
-abbrev pub named_levels : ℕ → List ℕ → Level → List (List ℕ) → List Event
-named_levels wire text level [] = []
-named_levels wire text level (name ∷ rest) =
-    if names_wire name text then events.Level wire level ∷ named_levels (wire + 1) text level rest
-    else named_levels (wire + 1) text level rest
+-- the wires that a text names, from this one on, have an edge to a level
+abbrev pub named_edges : ℕ → List ℕ → Level → List (List ℕ) → List Event
+named_edges wire text level [] = []
+named_edges wire text level (name ∷ rest) =
+    if names_wire name text then events.Edge wire level ∷ named_edges (wire + 1) text level rest
+    else named_edges (wire + 1) text level rest
 
 -- a time, the first of which says that ticks are nanoseconds
 abbrev pub time_said : Option ℕ → ℕ → List Event
 time_said None time = events.Ticks NANOSECONDS ∷ events.At time ∷ []
 time_said (Some last) time = events.At time ∷ []
 
--- an edge: its time, not before the last one, and the levels of the wires from then on
+-- an edge: its time, not before the last one, and the wires that have it
 abbrev pub edge_says : GpiomonState → EdgeSaid → ℕ → Said GpiomonState
 edge_says state edge time =
     if is_before time state.last then Err refusals.Backwards
     else result_map
     (λ levels. (
-      time_said state.last time ++ named_levels 0 edge.wire edge.level state.names,
+      time_said state.last time ++ named_edges 0 edge.wire edge.level state.names,
       gpiomon_by state.lossy state.names levels (Some time),
     ))
     (levels_after state.lossy edge.wire edge.level state.names state.levels)

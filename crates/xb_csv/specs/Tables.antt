@@ -13,10 +13,10 @@ use Rattle.xb_contact.specs.declared.level.Level.{Level}
 use Rattle.xb_contact.specs.Numbers.{level_of, number_of}
 use Rattle.xb_contact.specs.Steps.{Said, is_before, result_and_then, result_map, said_before, say_to_end}
 use Rattle.xb_contact.specs.Times.{scale_by}
-use Rattle.xb_csv.specs.declared.clock.Clock.{Clock}
-use Rattle.xb_csv.specs.declared.clock.Clock.TheVariants as clocks
+use Rattle.xb_csv.specs.declared.row_times.Clock.{Clock}
+use Rattle.xb_csv.specs.declared.row_times.Clock.TheVariants as clocks
 use Rattle.xb_csv.specs.declared.columns.Columns.{Columns}
-use Rattle.xb_csv.specs.declared.periods.CutTimes.{CutTimes}
+use Rattle.xb_csv.specs.declared.sample_periods.CutTimes.{CutTimes}
 use Rattle.xb_csv.specs.declared.columns.TableForm.{TableForm}
 use Rattle.xb_csv.specs.declared.columns.TableForm.TheVariants as forms
 use Rattle.xb_csv.specs.Cells.{after, cell_number, cells_of, stands_after, trimmed}

@@ -1,6 +1,6 @@
 -- Lines of gpiomon, each with what it says, and the names of the wires that they write.
 use Rattle.std.specs.Prelude.{◌≡◌, ◌+◌, ◌^◌, List, [], ◌∷◌, true, false, None, Ok, Err, codes, ℕ}
-use Rattle.xb_contact.specs.declared.event.Event.TheVariants.{At, Level, Ticks}
+use Rattle.xb_contact.specs.declared.event.Event.TheVariants.{At, Edge, Ticks}
 use Rattle.xb_contact.specs.declared.event.Refusal.TheVariants as refusals
 use Rattle.xb_contact.specs.declared.level.Level.TheVariants.{Open, Closed}
 use Rattle.xb_contact.specs.Times.{scale_by}
@@ -39,11 +39,11 @@ pub record EdgesAreRead : Type 0 where
       gpiomon_says two_lines
       (codes "event: FALLING EDGE offset: 17 timestamp: [     1.500000000]"
       ∷ codes "event:  RISING EDGE offset: 4 timestamp: [     1.600000000]" ∷ [] ∷ [])
-      ≡ Ok (Ticks (scale_by 1 1000000) ∷ At (2 ^ 62 + 1500000000) ∷ Level 0 Open ∷ At (2 ^ 62 + 1600000000) ∷ [])
+      ≡ Ok (Ticks (scale_by 1 1000000) ∷ At (2 ^ 62 + 1500000000) ∷ Edge 0 Open ∷ At (2 ^ 62 + 1600000000) ∷ [])
   pub of_libgpiod_2 :
       gpiomon_says two_lines
       (codes "1.5\tfalling\tgpiochip0 17 \"GPIO17\"" ∷ codes "1.5  rising  gpiochip0 4 \"LOOP\"" ∷ [])
-      ≡ Ok (Ticks (scale_by 1 1000000) ∷ At (2 ^ 62 + 1500000000) ∷ Level 0 Open ∷ At (2 ^ 62 + 1500000000) ∷ Level 1 Closed ∷ [])
+      ≡ Ok (Ticks (scale_by 1 1000000) ∷ At (2 ^ 62 + 1500000000) ∷ Edge 0 Open ∷ At (2 ^ 62 + 1500000000) ∷ Edge 1 Closed ∷ [])
   pub backwards :
       gpiomon_says two_lines (codes "1.5 rising gpiochip0 4" ∷ codes "1.4 falling gpiochip0 4" ∷ []) ≡ Err refusals.Backwards
   pub lost :
@@ -51,8 +51,8 @@ pub record EdgesAreRead : Type 0 where
   pub lost_and_allowed :
       gpiomon_says (record two_lines { lossy = true })
       (codes "1.5 rising gpiochip0 17" ∷ codes "1.6 rising gpiochip0 17" ∷ codes "1.7 falling gpiochip0 17" ∷ [])
-      ≡ Ok (Ticks (scale_by 1 1000000) ∷ At (2 ^ 62 + 1500000000) ∷ Level 0 Closed ∷ At (2 ^ 62 + 1600000000) ∷ Level 0 Closed
-      ∷ At (2 ^ 62 + 1700000000) ∷ Level 0 Open ∷ [])
+      ≡ Ok (Ticks (scale_by 1 1000000) ∷ At (2 ^ 62 + 1500000000) ∷ Edge 0 Closed ∷ At (2 ^ 62 + 1600000000) ∷ Edge 0 Closed
+      ∷ At (2 ^ 62 + 1700000000) ∷ Edge 0 Open ∷ [])
   pub lost_elsewhere :
       gpiomon_says two_lines (codes "1.5 rising gpiochip0 4" ∷ codes "1.6 rising gpiochip0 4" ∷ [])
       ≡ Ok (Ticks (scale_by 1 1000000) ∷ At (2 ^ 62 + 1500000000) ∷ At (2 ^ 62 + 1600000000) ∷ [])

@@ -1,6 +1,6 @@
 -- Rates as they are written, and the whole units of a sample, as sigrok counts times by them.
 use Rattle.std.specs.Prelude.{◌≡◌, ℕ, Some, None, codes}
-use Rattle.xb_csv.specs.declared.periods.CutTimes.{CutTimes}
+use Rattle.xb_csv.specs.declared.sample_periods.CutTimes.{CutTimes}
 use Rattle.xb_csv.specs.Tables.{cut_times, rate_of}
 
 pub record RatesAreRead : Type 0 where

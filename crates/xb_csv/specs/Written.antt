@@ -8,7 +8,7 @@ use Rattle.xb_contact.specs.declared.level.Level.{Level}
 use Rattle.xb_contact.specs.declared.level.Level.TheVariants.{Open, Closed}
 use Rattle.xb_contact.specs.declared.scale.TheConstants.{NANOSECONDS}
 use Rattle.xb_contact.specs.Holds.{same_level}
-use Rattle.xb_contact.specs.Changes.{AreInOrder, AreNames, Change, change_events}
+use Rattle.xb_contact.specs.Changes.{AreInOrder, AreNames, Change}
 use Rattle.xb_csv.specs.declared.columns.TableForm.TheVariants as forms
 use Rattle.xb_csv.specs.Gpiomons.{gpiomon_says, gpiomon_with, names_wire}
 use Rattle.xb_csv.specs.Tables.{begun_table, table_says}
@@ -37,9 +37,14 @@ abbrev pub edge_lines : List (List ℕ) → List Change → List (List ℕ)
 edge_lines names [] = []
 edge_lines names (edge ∷ rest) = edge_line names edge ∷ edge_lines names rest
 
+-- what is said of edges: of each its tick, and then the edge
+abbrev pub edges_said : List Change → List Event
+edges_said [] = []
+edges_said (edge ∷ rest) = events.At edge.tick ∷ events.Edge edge.wire edge.level ∷ edges_said rest
+
 abbrev pub edge_events : List Change → List Event
 edge_events [] = []
-edge_events (edge ∷ rest) = events.Ticks NANOSECONDS ∷ change_events (edge ∷ rest)
+edge_events (edge ∷ rest) = events.Ticks NANOSECONDS ∷ edges_said (edge ∷ rest)
 
 -- the next change of this wire is to another level
 abbrev pub next_differs : ℕ → Level → List Change → Bool

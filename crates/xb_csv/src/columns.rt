@@ -5,11 +5,11 @@ ghost use Rattle.xb_csv.specs.Cells.{cells_of};
 ghost use Rattle.xb_csv.specs.Tables.{begun_table, begins_rows, columns_before, comment_says, cut_times, edges_row, first_time, label_refused, levels_from, line_of_form, named_samples, names_say, no_header, row_at, row_says, saleae_begins, saleae_header, saleae_row, samples_begin, sigrok_by_units, sigrok_header, sigrok_line, sigrok_row, table_ends, table_line_says, table_says, table_state, times_begin, times_decided, units_of_label};
 
 use crate::cells::{after, cell_at, trimmed};
-use crate::clock::{Clock, columns_before, end_at, first_number, row_time};
-use crate::labels::{
+use crate::preamble::{
     is_comment, is_remark, is_seconds, rate_in, refusal_of_label, scale_of_units, units_of_label,
 };
-use crate::periods::{CutTimes, counts_periods, cut_times};
+use crate::row_times::{Clock, columns_before, end_at, first_number, row_time};
+use crate::sample_periods::{CutTimes, counts_periods, cut_times};
 use crate::wires::{find_columns, number_columns, say_levels};
 use std::alloc::Global;
 use xb_contact::{Event, NANOSECONDS, Refusal, Scale, is_before, say};

@@ -2,7 +2,7 @@
 ghost use Rattle.std.specs.Prelude.{◌≡◌, ◌++◌, ◌∷◌, ◌<◌, [], Err, IfErr, IfOk, IfSome, Ok, OnOk, is_some, length, map, option_copied, option_map};
 ghost use Rattle.std.specs.List.{position};
 ghost use Rattle.xb_contact.specs.Steps.{Adds, IsRefusedBy};
-ghost use Rattle.xb_csv.specs.Gpiomons.{between, edge_line_says, edge_of, edge_said, edge_says, edge_taken, first_kind, first_word, gpiomon_line_says, gpiomon_says, gpiomon_state, gpiomon_with, is_gap, is_name, is_numbered, level_after, level_taken, levels_after, name_of_wire, named_levels, names_wire, second_kind, time_said, wire_of_edge};
+ghost use Rattle.xb_csv.specs.Gpiomons.{between, edge_line_says, edge_of, edge_said, edge_says, edge_taken, first_kind, first_word, gpiomon_line_says, gpiomon_says, gpiomon_state, gpiomon_with, is_gap, is_name, is_numbered, level_after, level_taken, levels_after, name_of_wire, named_edges, names_wire, second_kind, time_said, wire_of_edge};
 
 use crate::cells::trimmed;
 use crate::seconds::nanoseconds_of;
@@ -49,7 +49,7 @@ fn gap_in(text: &[u8]) -> Option<usize>
 
 /// The first word of a text, and what follows it. Words are parted by spaces and tabs.
 #[tactic(auto, unfolding(crate::specs::Gpiomons::first_word))]
-pub fn first_word(text: &[u8]) -> (&[u8], &[u8])
+pub(crate) fn first_word(text: &[u8]) -> (&[u8], &[u8])
     ensures word { result.0.now ≡ (first_word text.now).0 }
     ensures rest { result.1.now ≡ (first_word text.now).1 }
 {
@@ -262,7 +262,7 @@ fn take_levels(
     Ok(())
 }
 
-// Says the levels of the wires that a text names.
+// Says the edges of the wires that a text names.
 fn say_named(
     names: &[&str],
     text: &[u8],
@@ -270,12 +270,12 @@ fn say_named(
     events: &mut Vec<Event>,
 ) -> Result<(), Refusal>
     ensures said { OnOk result (events.new.items ≡ events.old.items
-        ++ named_levels 0 text.now level (map (λ name. name.now) names.now)) }
+        ++ named_edges 0 text.now level (map (λ name. name.now) names.now)) }
     ensures only { IfErr result (λ e. e ≡ Refusal.NoMemory) }
 {
     for (i, name) in names.iter().enumerate() {
         if names_wire(name.as_bytes(), text) {
-            say(events, Event::Level(i, level))?;
+            say(events, Event::Edge(i, level))?;
         }
     }
     Ok(())

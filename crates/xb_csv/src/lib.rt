@@ -20,18 +20,18 @@
 #![tactic(auto)]
 
 mod cells;
-mod clock;
 mod columns;
 mod exponents;
 mod gpiomon;
-mod labels;
 pub mod laws;
-mod periods;
+mod preamble;
+mod row_times;
+mod sample_periods;
 mod seconds;
 mod wires;
 
 pub use cells::{cell_at, trimmed};
 pub use columns::{Columns, TableForm};
-pub use gpiomon::{Gpiomon, first_word, is_of_gpiomon, wire_of_edge};
-pub use labels::is_seconds;
+pub use gpiomon::{Gpiomon, is_of_gpiomon, wire_of_edge};
+pub use preamble::is_seconds;
 pub use seconds::nanoseconds_of;

@@ -1,5 +1,6 @@
 pub mod Constants
 pub mod Deck
+pub mod FaultTexts
 pub mod MadeDecks
 pub mod Tables
 pub mod WorkedDecks

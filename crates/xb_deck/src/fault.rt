@@ -2,6 +2,7 @@
 ghost use Rattle.std.specs.Prelude.{◌≡◌};
 
 use crate::table::TableFault;
+use std::fmt;
 use thiserror::Error;
 use xb_model::RowFault;
 use xb_routes::RouteFault;
@@ -14,23 +15,35 @@ use xb_text::ReadFault;
 #[derive(Clone, Copy, Debug, PartialEq, Eq, Error)]
 pub enum DeckFault {
     /// A read of the deck failed, an interrupted one too.
-    #[error("{}", TableFault::Read)]
     Read,
     /// The deck has more than 16,777,216 bytes.
-    #[error("the deck is longer than 16777216 bytes")]
     TooLong,
     /// No line of the deck is exactly `---`.
-    #[error("{}", TableFault::NoCut)]
     NoCut,
     /// The route table is refused.
-    #[error("route table: {0}")]
     Routes(RouteFault),
     /// The loop rows are refused.
-    #[error("loop rows: {0}")]
     Rows(RowFault),
     /// Memory ran out.
-    #[error("{}", RowFault::NoMemory)]
     NoMemory,
+}
+
+impl fmt::Display for DeckFault {
+    ghost use Rattle.std.specs.Prelude.{Some};
+    ghost use Rattle.xb_deck.specs.FaultTexts.{deck_text};
+
+    ghost output = { λ fault. Some (deck_text fault) };
+
+    fn fmt<W: fmt::Write>(&self, f: &mut fmt::Formatter<W>) -> fmt::Result {
+        match self {
+            DeckFault::Read => write!(f, "{}", TableFault::Read),
+            DeckFault::TooLong => f.write_str("the deck is longer than 16777216 bytes"),
+            DeckFault::NoCut => write!(f, "{}", TableFault::NoCut),
+            DeckFault::Routes(fault) => write!(f, "route table: {fault}"),
+            DeckFault::Rows(fault) => write!(f, "loop rows: {fault}"),
+            DeckFault::NoMemory => f.write_str("out of memory"),
+        }
+    }
 }
 
 impl From<ReadFault> for DeckFault {

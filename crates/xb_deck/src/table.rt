@@ -5,9 +5,9 @@ ghost use Rattle.xb_deck.specs.Tables.{IsCutAfter, IsTableFault, ReadsByte};
 
 use crate::deck::is_cut;
 use std::alloc::{AllocError, Global};
+use std::fmt;
 use std::io::Read;
 use thiserror::Error;
-use xb_model::RowFault;
 
 // The most bytes of a line that is the cut.
 const CUT_BYTES: usize = 4;
@@ -16,17 +16,29 @@ const CUT_BYTES: usize = 4;
 #[derive(Clone, Copy, Debug, PartialEq, Eq, Error)]
 pub enum TableFault {
     /// A read failed, an interrupted one too.
-    #[error("the deck could not be read")]
     Read,
     /// The table is longer than so many bytes, the limit, or the stream is and has no line that cuts it.
-    #[error("the route table is longer than {0} bytes")]
     TooLong(usize),
     /// No line of the stream is exactly `---`.
-    #[error("the deck has no line ---")]
     NoCut,
     /// Memory ran out.
-    #[error("{}", RowFault::NoMemory)]
     NoMemory,
+}
+
+impl fmt::Display for TableFault {
+    ghost use Rattle.std.specs.Prelude.{Some};
+    ghost use Rattle.xb_deck.specs.FaultTexts.{table_text};
+
+    ghost output = { λ fault. Some (table_text fault) };
+
+    fn fmt<W: fmt::Write>(&self, f: &mut fmt::Formatter<W>) -> fmt::Result {
+        match self {
+            TableFault::Read => f.write_str("the deck could not be read"),
+            TableFault::TooLong(most) => write!(f, "the route table is longer than {most} bytes"),
+            TableFault::NoCut => f.write_str("the deck has no line ---"),
+            TableFault::NoMemory => f.write_str("out of memory"),
+        }
+    }
 }
 
 // The next byte; `None` at the end.

@@ -114,10 +114,6 @@ settles least first bouncing rows long =
 pub traces_settle : TracesSettle
 traces_settle least first bouncing rows long = (within least bouncing rows long, settles least first bouncing rows long)
 
--- whole ms are rounded to themselves
-whole-ms : (ms : ℕ) → ms_at (scale_by 1 1000) (ms * 1000) ≡ ms
-whole-ms ms = omega arith
-
 rounded-in-us :
     (ms : ℕ) (runs : List Hold) → rounded (scale_by 1 1000) (ms * 1000) (map in_us runs) ≡ runs
 rounded-in-us ms [] = refl

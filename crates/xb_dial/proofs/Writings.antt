@@ -1,6 +1,6 @@
 -- Texts that are written part by part.
-use Rattle.std.proofs.Common.{◌≡◌, ◌∙◌, ℕ, List, [], ◌++◌, Option, subst, append_assoc}
-use Rattle.std.proofs.KnownBytes.{Appends-nil, Appends-trans}
+use Rattle.std.proofs.Common.{◌≡◌, ◌∙◌, ℕ, List, ◌++◌, Option, subst, append_assoc}
+use Rattle.std.proofs.KnownBytes.{Appends-trans}
 use Rattle.std.specs.Io.KnownBytes.{Appends}
 use Rattle.xb_text.specs.Writing.{AppendsBeginning}
 use Rattle.xb_text.proofs.Beginnings.{AppendsBeginning-first, AppendsBeginning-second}
@@ -10,9 +10,6 @@ pub record Lacks (old now : Option (List ℕ)) (rest whole : List ℕ) : Type 0 
   pub built : List ℕ
   pub written : Appends old now built
   pub all : built ++ rest ≡ whole
-
-pub lacks-all : (old : Option (List ℕ)) (rest whole : List ℕ) → rest ≡ whole → Lacks old old rest whole
-lacks-all old rest whole e = record { built = []; written = Appends-nil old; all = e }
 
 -- a part more
 pub lacks-less :

@@ -1,3 +1,4 @@
+pub mod FaultTexts
 pub mod Runs
 pub mod Drawn
 pub mod Traces

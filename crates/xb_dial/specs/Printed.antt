@@ -6,7 +6,7 @@ use Rattle.xb_model.specs.Rows.{LoopRow}
 use Rattle.xb_rows.specs.declared.scan.TheConstants.{MOST_RECORDS}
 use Rattle.xb_rows.specs.RowTexts.{rest_of_text, rows_and_stop}
 use Rattle.xb_rows.specs.WrittenRows.{text_of_rows}
-use Rattle.xb_calls.specs.declared.reading.TheConstants.{MOST_TEXT_BYTES}
+use Rattle.xb_calls.specs.declared.call_texts.TheConstants.{MOST_TEXT_BYTES}
 use Rattle.xb_calls.specs.Calls.{DialledCall}
 use Rattle.xb_calls.specs.CallTexts.{calls_of_text}
 use Rattle.xb_calls.specs.Dialling.{dialled}

@@ -1,5 +1,5 @@
 -- What the program does.
-use Rattle.std.specs.Prelude.{None, Err, Ok}
+use Rattle.std.specs.Prelude.{Some, Err, Ok}
 use Rattle.std.specs.Io.KnownBytes.{Keeps}
 use Rattle.xb_command.specs.Programs.{Streams}
 use Rattle.xb_command.specs.Telling.{Tells}
@@ -9,6 +9,7 @@ use Rattle.xb_dial.specs.declared.fault.DialFault.{DialFault}
 use Rattle.xb_dial.specs.declared.request.Asked.{Asked}
 use Rattle.xb_dial.specs.Options.{Asks, IsUnfit}
 use Rattle.xb_dial.specs.Printed.{Delivers, JudgesSpeed}
+use Rattle.xb_dial.specs.FaultTexts.{dial_text}
 
 -- exactly the rows of the calls were written
 pub record WritesRows (asked : Asked) (old new : Streams) : Type 0 where
@@ -21,7 +22,7 @@ pub record HasFault (asked : Asked) (program : Program) (old new : Streams) : Ty
   pub fault : DialFault
   pub judged : JudgesSpeed asked.request.manner (Err fault)
   pub rows : Delivers asked.request old.input (Err fault) old.output new.output
-  pub line : Tells program.name.now None old.errors new.errors
+  pub line : Tells program.name.now (Some (dial_text fault)) old.errors new.errors
 
 -- what the words ask for, what is read, and what is done
 abbrev pub by_dial : Rules Asked

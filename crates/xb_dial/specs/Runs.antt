@@ -8,7 +8,7 @@ use Rattle.xb_contact.specs.declared.level.Level.{Level}
 use Rattle.xb_contact.specs.declared.level.Level.TheVariants.{Open, Closed}
 use Rattle.xb_contact.specs.declared.hold.Hold.{Hold}
 use Rattle.xb_contact.specs.Holds.{hold_of, runs_of}
-use Rattle.xb_dial.specs.declared.runs.TheConstants.{IDLE_MS, US_OF_MS}
+use Rattle.xb_dial.specs.declared.contact_runs.TheConstants.{IDLE_MS, US_OF_MS}
 
 -- closed in a make, else open
 abbrev pub level_in : Contact → Level

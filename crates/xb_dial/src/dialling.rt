@@ -2,15 +2,16 @@
 ghost use Rattle.std.specs.Prelude.{◌≡◌, ◌≢◌, ◌≤◌, IfErr, IfOk, OnOk, length, true};
 ghost use Rattle.std.specs.Io.KnownBytes.{Appends, Keeps};
 ghost use Rattle.xb_text.specs.Writing.{AppendsBeginning};
-ghost use Rattle.xb_calls.specs.declared.reading.TheConstants.{MOST_TEXT_BYTES};
+ghost use Rattle.xb_calls.specs.declared.call_texts.TheConstants.{MOST_TEXT_BYTES};
 ghost use Rattle.xb_rows.specs.WrittenRows.{text_of_rows};
 ghost use Rattle.xb_dial.specs.Traces.{trace_text};
 ghost use Rattle.xb_dial.specs.declared.request.Form.TheVariants as forms;
 ghost use Rattle.xb_dial.specs.Printed.{Delivers, IsFaultOfCalls, IsFaultOfPrinting, IsOfSpeed, IsReadBack, JudgesSpeed, Sends, WhereWritten, are_of_one_line, are_on, can_print, is_on, printed_of};
 
+use crate::bouncing::Bouncing;
 use crate::fault::DialFault;
 use crate::request::{Form, Manner, Request};
-use crate::{Bouncing, write_trace};
+use crate::trace::write_trace;
 use std::alloc::Global;
 use std::io::{Read, Write};
 use xb_calls::{Call, MOST_TEXT_BYTES, calls_of_text};

@@ -1,11 +1,11 @@
 // Why no rows are printed.
 ghost use Rattle.std.specs.Prelude.{◌≡◌};
 
-use crate::TraceFault;
+use crate::trace_fault::TraceFault;
 use std::alloc::AllocError;
+use std::fmt;
 use thiserror::Error;
 use xb_calls::{CallFault, SpeedFault};
-use xb_model::RowFault;
 use xb_text::{ReadFault, WriteFault};
 use xb_worn::WornFault;
 
@@ -14,33 +14,47 @@ use xb_worn::WornFault;
 #[derive(Debug, Drop, Error)]
 pub enum DialFault {
     /// A time of the speed does not fit the standard limits.
-    #[error("speed: {0}")]
     Speed(SpeedFault),
     /// A read of the calls failed, an interrupted one too.
-    #[error("the calls could not be read")]
     Read,
     /// The text of the calls has more than 16,777,216 bytes.
-    #[error("the calls are longer than 16777216 bytes")]
     TooLong,
     /// A text line is refused.
-    #[error("{0}")]
     Calls(CallFault),
     /// The contact of one line is asked for, and the calls are of several.
-    #[error("the calls are of several lines, and a dump has the contact of one")]
     SeveralLines,
     /// A fault of the dial is at no place of the calls, or at that of another; or a time of a call may not stand in a
     /// row.
-    #[error("{0}")]
     Worn(WornFault),
     /// The dump would last 2^64 us or longer.
-    #[error("the dump is too long")]
     LongDump,
     /// Memory ran out.
-    #[error("{}", RowFault::NoMemory)]
     NoMemory,
     /// A write or the flush failed, or a write took no byte. The beginning of the rows, or of the dump, was written.
-    #[error("the rows could not be written")]
     Write,
+}
+
+impl fmt::Display for DialFault {
+    ghost use Rattle.std.specs.Prelude.{Some};
+    ghost use Rattle.xb_dial.specs.FaultTexts.{dial_text};
+
+    ghost output = { λ fault. Some (dial_text fault) };
+
+    fn fmt<W: fmt::Write>(&self, f: &mut fmt::Formatter<W>) -> fmt::Result {
+        match self {
+            DialFault::Speed(fault) => write!(f, "speed: {fault}"),
+            DialFault::Read => f.write_str("the calls could not be read"),
+            DialFault::TooLong => f.write_str("the calls are longer than 16777216 bytes"),
+            DialFault::Calls(fault) => write!(f, "{fault}"),
+            DialFault::SeveralLines => f.write_str(
+                "the calls are of several lines, and a dump has the contact of one",
+            ),
+            DialFault::Worn(fault) => write!(f, "{fault}"),
+            DialFault::LongDump => f.write_str("the dump is too long"),
+            DialFault::NoMemory => f.write_str("out of memory"),
+            DialFault::Write => f.write_str("the rows could not be written"),
+        }
+    }
 }
 
 impl From<SpeedFault> for DialFault {

@@ -3,7 +3,7 @@ ghost use Rattle.xb_dial.specs.TraceLaws.{TracesAreRead, TracesAreTheRows, Trace
 ghost use Rattle.xb_dial.specs.WorkedTrace.{WorkedTrace};
 ghost use Rattle.std.specs.Prelude.{◌≡◌};
 ghost use Rattle.xb_dial.specs.declared.bouncing.TheConstants.{DRAWS, MOST_BOUNCES};
-ghost use Rattle.xb_dial.specs.declared.runs.TheConstants.{IDLE_MS, US_OF_MS};
+ghost use Rattle.xb_dial.specs.declared.contact_runs.TheConstants.{IDLE_MS, US_OF_MS};
 
 /// Whatever the rows are, the trace is read back as the changes of the contact.
 pub fn traces_are_read()

@@ -14,9 +14,8 @@
 //! The loop contact of a line as a logic analyser records it: rows of makes and breaks written as a value change dump,
 //! with the bounces that a seed draws.
 //!
-//! - `write_trace` (`trace_text`): on `Ok` the writer got exactly the text of the contact's changes; on `Write` the
-//!   beginning of it, and on any other fault nothing. `TooLong` comes only where the recording would end at 2^64 - 1 us
-//!   or later. It holds the runs of the rows, and one change of text at a time.
+//! - The dump (`trace_text`) is exactly the text of the contact's changes. `LongDump` comes only where the recording
+//!   would end at 2^64 - 1 us or later. Beside the rows their runs are held, and one change of text at a time.
 //! - The contact is open for a second, does what the rows say, and is open for a second more (`runs_in`): rows of one
 //!   contact that follow each other are one run, and a row of 0 ms is none.
 //! - `Bouncing`: each run but the first begins with up to four bounces, which a seed draws (`Drawn`). They end within
@@ -29,26 +28,22 @@
 //! Not said: how much memory a run takes.
 #![tactic(auto)]
 
+mod bounced_run;
 mod bouncing;
-mod change;
+mod contact_runs;
 mod dialling;
 mod fault;
 mod fault_words;
 pub mod laws;
+mod level_change;
 mod program;
 mod request;
-mod run;
-mod runs;
+mod trace;
 mod trace_fault;
 mod words;
-mod writing;
 
 pub use bouncing::Bouncing;
 pub use dialling::dial;
 pub use fault::DialFault;
-pub use program::attend;
 pub use request::{Asked, Form, Manner, Request};
-pub use runs::IDLE_MS;
-pub use trace_fault::TraceFault;
 pub use words::PROGRAM;
-pub use writing::write_trace;

@@ -1,6 +1,6 @@
 // What the words of the command line ask for.
 
-use crate::Bouncing;
+use crate::bouncing::Bouncing;
 use xb_calls::RowOrder;
 use xb_model::Plan;
 use xb_worn::{Fault, Wear};

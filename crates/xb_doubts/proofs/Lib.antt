@@ -1,6 +1,4 @@
-mod RowActivities
-mod Tails
-mod RowStories
+mod ToldAttempts
 mod HeardLines
 mod PartRows
-mod BothWays
+mod ToldLines

@@ -1,16 +1,14 @@
 -- The attempts of the lines of a deck, by the digits that are dialled in them.
-use Rattle.std.specs.Prelude.{ℕ, ◌&&◌, not, nat_le, List, [], ◌∷◌, Bool, true, false, count_by}
+use Rattle.std.specs.Prelude.{ℕ, ◌&&◌, not, nat_le, nat_lt, List, [], ◌∷◌, Bool, true, false, count_by}
 use Rattle.std.specs.List.{list_any, sum_by}
 use Rattle.xb_model.specs.declared.limits.Limits.{Limits}
 use Rattle.xb_model.specs.declared.line.TheConstants.{LINES}
 use Rattle.xb_model.specs.declared.signal.TheConstants.{MOST_PULSES}
 use Rattle.xb_model.specs.Lines.{lines_below}
-use Rattle.xb_model.specs.Records.{Attempt, Run, Train, attempts_of, record_of, trains_of}
+use Rattle.xb_model.specs.Records.{Attempt, Run, Train, attempts_of, is_make, record_of, trains_of}
 use Rattle.xb_model.specs.Rows.{LoopRow}
 use Rattle.xb_model.specs.Signals.{breaks_in, is_bad_train}
-use Rattle.xb_doubts.specs.declared.counted.TheConstants.{LEAST_DIGITS}
-use Rattle.xb_doubts.specs.declared.trains.TheConstants.{LEAST_PULSES}
-use Rattle.xb_doubts.specs.Runs.{is_short_make}
+use Rattle.xb_doubts.specs.declared.counted.TheConstants.{LEAST_DIGITS, LEAST_PULSES, RINGING_MS}
 
 abbrev pub has_trains : List Train → Bool
 has_trains [] = false
@@ -36,6 +34,10 @@ is_clear limits train =
 -- an attempt in which three or more of these are dialled
 abbrev pub has_number : Limits → Attempt → Bool
 has_number limits attempt = nat_le LEAST_DIGITS (count_by (is_clear limits) (trains_of limits attempt.runs))
+
+-- a make as short as those of ringing
+abbrev pub is_short_make : Run → Bool
+is_short_make run = is_make run && nat_lt run.ms RINGING_MS
 
 abbrev pub begins_short : List Run → Bool
 begins_short [] = false

@@ -1,9 +1,7 @@
 -- The numbers by which a deck is suspicious, each as it is.
 use Rattle.std.specs.Prelude.{◌≡◌}
-use Rattle.xb_doubts.specs.declared.counted.TheConstants.{LEAST_DIGITS, LEAST_RINGS}
+use Rattle.xb_doubts.specs.declared.counted.TheConstants.{LEAST_DIGITS, LEAST_PULSES, LEAST_RINGS, RINGING_MS}
 use Rattle.xb_doubts.specs.declared.exchanged.TheConstants.{DIAL_MS}
-use Rattle.xb_doubts.specs.declared.judged.TheConstants.{RINGING_MS}
-use Rattle.xb_doubts.specs.declared.trains.TheConstants.{LEAST_PULSES}
 use Rattle.xb_doubts.specs.declared.units.TheConstants.{LEAST_BREAKS}
 
 -- a definition that cites a constant means this number

@@ -1,16 +1,13 @@
 -- What the digits of attempts are, and how many of these are as ringing makes them, up to ten.
-use Rattle.std.specs.Prelude.{ℕ, ◌+◌, ◌&&◌, ◌||◌, not, nat_le, min, List, false, if◌then◌else◌, count_by}
+use Rattle.std.specs.Prelude.{ℕ, ◌+◌, ◌||◌, min, List, false, count_by}
 use Rattle.std.specs.List.{list_any, sum_by}
 use Rattle.xb_model.specs.declared.limits.Limits.{Limits}
 use Rattle.xb_model.specs.Lines.{lines_below}
 use Rattle.xb_model.specs.Records.{Attempt}
 use Rattle.xb_model.specs.Rows.{LoopRow}
 use Rattle.xb_doubts.specs.declared.counted.Counted.{Counted}
-use Rattle.xb_doubts.specs.declared.counted.TheConstants.{LEAST_DIGITS, LEAST_RINGS}
-use Rattle.xb_doubts.specs.declared.judged.Judged.{Judged}
-use Rattle.xb_doubts.specs.declared.trains.Trains.{Trains}
+use Rattle.xb_doubts.specs.declared.counted.TheConstants.{LEAST_RINGS}
 use Rattle.xb_doubts.specs.Attempts.{attempts_on, has_digit, has_number, has_whole_digit, is_ring}
-use Rattle.xb_doubts.specs.Trains.{any_of, digits_of, told_after, whole_of}
 
 abbrev pub counted : Limits → List Attempt → Counted
 counted limits attempts = record {
@@ -30,18 +27,6 @@ with_counted some other = record {
   numbers = some.numbers || other.numbers;
   rings = min (some.rings + other.rings) LEAST_RINGS;
 }
-
-abbrev pub counted_heard : Judged → Trains → Counted
-counted_heard run heard = record {
-  dials = any_of heard;
-  dials_whole = whole_of heard;
-  numbers = nat_le LEAST_DIGITS (digits_of heard);
-  rings = if run.is_short && not (any_of heard) then 1 else 0;
-}
-
--- the attempt that begins with this run, after which these trains are heard
-abbrev pub counted_attempt : Judged → Trains → Counted
-counted_attempt run trains = counted_heard run (told_after run trains)
 
 -- the attempts of one line, and of the lines below one
 abbrev pub counted_on : Limits → List LoopRow → ℕ → Counted

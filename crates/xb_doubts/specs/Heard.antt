@@ -1,17 +1,20 @@
 -- What is heard on the lines of the office in the rows of a deck.
-use Rattle.std.specs.Prelude.{ℕ, ◌≡◌, ◌+◌, ◌||◌, min, nat_le, List, Bool}
+use Rattle.std.specs.Prelude.{ℕ, ◌≡◌, ◌+◌, ◌||◌, min, nat_le, List, [], ◌∷◌, Bool, false}
 use Rattle.std.specs.List.{list_any}
 use Rattle.xb_model.specs.declared.limits.Limits.{Limits}
 use Rattle.xb_model.specs.declared.line.TheConstants.{LINES}
 use Rattle.xb_model.specs.Lines.{lines_below}
-use Rattle.xb_model.specs.Records.{record_of}
+use Rattle.xb_model.specs.Records.{Run, attempts_of, record_of}
 use Rattle.xb_model.specs.Rows.{LoopRow}
 use Rattle.xb_doubts.specs.declared.heard.Heard.{Heard}
-use Rattle.xb_doubts.specs.declared.story.Story.{Story}
 use Rattle.xb_doubts.specs.declared.counted.TheConstants.{LEAST_RINGS}
 use Rattle.xb_doubts.specs.Attempts.{dials, dials_whole, rings}
-use Rattle.xb_doubts.specs.Counted.{counted_below, with_counted}
-use Rattle.xb_doubts.specs.Stories.{counted_in, lasts}
+use Rattle.xb_doubts.specs.Counted.{counted, counted_below, none_counted, with_counted}
+
+-- how long runs last
+abbrev pub lasts : List Run → ℕ
+lasts [] = 0
+lasts (run ∷ runs) = run.ms + lasts runs
 
 -- so many ms are enough for a pulse and a pause, without which there is no digit
 abbrev pub can_dial : Limits → ℕ → Bool
@@ -29,11 +32,21 @@ room_below limits rows n = list_any (λ l. can_dial limits (lasts (record_of l r
 abbrev pub heard_below : Limits → List LoopRow → ℕ → Heard
 heard_below limits rows n = record { counted = counted_below limits rows n; has_room = room_below limits rows n }
 
+abbrev pub nothing_heard : Heard
+nothing_heard = record { counted = none_counted; has_room = false }
+
+-- what is heard on a line of this record
+abbrev pub heard_on : Limits → List Run → Heard
+heard_on limits record_ = record {
+  counted = counted limits (attempts_of limits record_);
+  has_room = can_dial limits (lasts record_);
+}
+
 -- what is heard on lines and one more
-abbrev pub heard_with : Limits → Heard → Story → Heard
-heard_with limits heard story = record {
-  counted = with_counted heard.counted (counted_in limits story);
-  has_room = heard.has_room || can_dial limits story.lasts;
+abbrev pub heard_with : Heard → Heard → Heard
+heard_with some one = record {
+  counted = with_counted some.counted one.counted;
+  has_room = some.has_room || one.has_room;
 }
 
 -- this is heard on all lines

@@ -1,14 +1,10 @@
-pub mod Activities
-pub mod RowSteps
-pub mod Runs
 pub mod Attempts
 pub mod Ringing
-pub mod Trains
 pub mod Counted
-pub mod Tails
-pub mod Stories
+pub mod Told
 pub mod Parts
 pub mod Heard
 pub mod Units
 pub mod Exchanged
+pub mod Lines
 pub mod Constants

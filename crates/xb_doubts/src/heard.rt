@@ -1,18 +1,14 @@
 // What is heard on the lines of the office in the rows of a deck.
-ghost use Rattle.std.specs.Prelude.{◌≡◌, ◌<◌, IfOk, List};
-ghost use Rattle.xb_model.specs.declared.line.TheConstants.{LINES};
-ghost use Rattle.xb_model.specs.Rows.{LoopRow};
-ghost use Rattle.xb_doubts.specs.Heard.{IsHeard, can_dial, heard_below, heard_with};
-ghost use Rattle.xb_doubts.specs.Parts.{rows_in_parts};
-ghost use Rattle.xb_doubts.specs.Runs.{AreToldApart};
-ghost use Rattle.xb_doubts.specs.Stories.{stories, stories_of};
+ghost use Rattle.std.specs.Prelude.{◌≡◌, ◌<◌, ◌^◌, IfOk, List, length, map};
+ghost use Rattle.xb_model.specs.Records.{Run, joined};
+ghost use Rattle.xb_heard.specs.Figures.{times_of};
+ghost use Rattle.xb_heard.specs.PlacedRuns.{run_in};
+ghost use Rattle.xb_doubts.specs.Heard.{IsHeard, can_dial, heard_on, heard_with, nothing_heard};
 
-use crate::counted::{Counted, none_counted};
-use crate::judged::told_apart;
-use crate::stories::Stories;
-use crate::story::Story;
+use crate::counted::{Counted, counted_of, none_counted};
 use std::alloc::{AllocError, Global};
-use xb_model::{LINES, Limits, LineNo, Row};
+use xb_heard::{PlacedRun, heard_of, runs_by_line, times_of};
+use xb_model::{LINES, Limits, LineNo, Plan, Row};
 
 /// What is heard on lines.
 #[derive(Clone, Copy)]
@@ -23,61 +19,58 @@ pub(crate) struct Heard {
     pub(crate) has_room: bool,
 }
 
-// Whether so many ms are enough for a pulse and a pause.
-fn can_dial(limits: Limits, ms: u64) -> bool
-    ensures { result ≡ can_dial limits ms }
-{
-    u64::from(limits.pulse_min) + u64::from(limits.pause) <= ms
-}
-
-// What is heard on lines and one more.
-fn with_line(limits: Limits, heard: Heard, story: Story) -> Heard
-    ensures { result ≡ heard_with limits heard story }
+// Nothing is heard.
+fn nothing_heard() -> Heard
+    ensures { result ≡ nothing_heard }
 {
     Heard {
-        counted: heard.counted.with(story.counted(limits)),
-        has_room: heard.has_room || can_dial(limits, story.lasts),
-    }
-}
-
-// What is heard on lines and the one of this number.
-fn with_number(limits: Limits, heard: Heard, lines: &Stories, number: u16) -> Heard
-    requires { number < LINES }
-    ensures { result ≡ heard_with limits heard (stories_of lines.now number) }
-{
-    match LineNo::new(number) {
-        Some(line) => with_line(limits, heard, lines.of(line)),
-        None => heard,
-    }
-}
-
-// What is heard on all lines, of which this is told.
-fn heard_by(limits: Limits, lines: &Stories) -> Heard
-    requires { AreToldApart limits }
-    ensures { (rows : List LoopRow) → stories_of lines.now ≡ stories limits rows
-        → result ≡ heard_below limits rows LINES }
-{
-    let mut heard = Heard {
         counted: none_counted(),
         has_room: false,
-    };
-    for number in 0..LINES {
-        heard = with_number(limits, heard, lines, number);
     }
-    heard
 }
 
-/// What is heard on all lines in these rows, each of one of so many parts of its time.
-pub(crate) fn heard_in(
-    alloc: Global,
-    limits: Limits,
-    parts: u32,
-    rows: &[Row],
-) -> Result<Heard, AllocError>
-    requires { 0 < parts }
-    ensures { IfOk result (λ heard. IsHeard limits (rows_in_parts parts rows.now) heard) }
+// Whether runs last long enough for a pulse and a pause.
+fn can_dial(limits: Limits, runs: &[PlacedRun]) -> bool
+    ensures { result ≡ can_dial limits (times_of runs.now).all_ms }
 {
-    told_apart(limits);
-    let lines = Stories::of_rows(alloc, limits, parts, rows)?;
-    Ok(heard_by(limits, &lines))
+    u128::from(limits.pulse_min) + u128::from(limits.pause) <= times_of(runs).all_ms
+}
+
+// What is heard on a line with these runs. The plan tells what comes of an attempt, which is not asked.
+fn heard_on(alloc: Global, limits: Limits, runs: &[PlacedRun]) -> Result<Heard, AllocError>
+    ensures { IfOk result (λ heard. (record_ : List Run) → map run_in runs.now ≡ joined record_
+        → heard ≡ heard_on limits record_) }
+{
+    let attempts = heard_of(alloc, runs, Plan::Seven, limits)?;
+    Ok(Heard {
+        counted: counted_of(limits, &attempts),
+        has_room: can_dial(limits, runs),
+    })
+}
+
+impl Heard {
+    // The same with another line.
+    fn with(self, line: Heard) -> Heard
+        ensures { result ≡ heard_with self line }
+    {
+        Heard {
+            counted: self.counted.with(line.counted),
+            has_room: self.has_room || line.has_room,
+        }
+    }
+}
+
+/// What is heard on all lines in these rows.
+pub(crate) fn heard_in(alloc: Global, limits: Limits, rows: &[Row]) -> Result<Heard, AllocError>
+    requires { length rows.now < 2 ^ 32 }
+    ensures { IfOk result (IsHeard limits rows.now) }
+{
+    let lines = runs_by_line(alloc, rows)?;
+    let mut heard = nothing_heard();
+    for number in 0..LINES {
+        if let Some(line) = LineNo::new(number) {
+            heard = heard.with(heard_on(alloc, limits, lines.get(line))?);
+        }
+    }
+    Ok(heard)
 }

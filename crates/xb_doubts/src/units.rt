@@ -1,7 +1,8 @@
 // Times of a deck that look as if they were of another unit than ms.
-ghost use Rattle.std.specs.Prelude.{◌≡◌, ◌<◌, IfOk, count_by};
+ghost use Rattle.std.specs.Prelude.{◌≡◌, ◌<◌, ◌/◌, ◌^◌, IfOk, count_by, length};
 ghost use Rattle.std.specs.List.{list_all, list_any};
 ghost use Rattle.xb_doubts.specs.Heard.{IsHeard};
+ghost use Rattle.xb_doubts.specs.Parts.{row_part, rows_in_parts};
 ghost use Rattle.xb_doubts.specs.Units.{are_seconds, are_thousandfold, dial_in_parts, is_break, is_thousandfold, is_timeless, wrong_unit};
 
 use crate::heard::{Heard, heard_in};
@@ -114,6 +115,29 @@ fn are_seconds(limits: Limits, heard: Heard, rows: &[Row]) -> bool
     has_break(rows) && (are_timeless(rows) || !heard.has_room)
 }
 
+// A row of one of so many parts of its time.
+fn row_part(parts: u32, row: Row) -> Row
+    requires { 0 < parts }
+    ensures { result ≡ row_part parts row }
+{
+    match Row::new(row.line(), row.contact(), row.ms() / parts) {
+        Some(part) => part,
+        None => row,
+    }
+}
+
+// Rows of one of so many parts of their time.
+fn rows_in_parts(alloc: Global, parts: u32, rows: &[Row]) -> Result<Vec<Row>, AllocError>
+    requires { 0 < parts }
+    ensures { IfOk result (λ others. others.items ≡ rows_in_parts parts rows.now) }
+{
+    let mut others = Vec::new(alloc);
+    for row in rows {
+        others.push(row_part(parts, *row))?;
+    }
+    Ok(others)
+}
+
 // Whether no digit but spoiled ones is dialled, where this is heard, and in so many parts of the times one is.
 fn dial_in_parts(
     alloc: Global,
@@ -123,13 +147,15 @@ fn dial_in_parts(
     rows: &[Row],
 ) -> Result<bool, AllocError>
     requires some { 0 < parts }
+    requires few { length rows.now < 2 ^ 32 }
     requires heard { IsHeard limits rows.now heard }
     ensures { IfOk result (λ is. is ≡ dial_in_parts limits parts rows.now) }
 {
     if heard.counted.dials_whole {
         return Ok(false);
     }
-    Ok(heard_in(alloc, limits, parts, rows)?.counted.dials)
+    let others = rows_in_parts(alloc, parts, rows)?;
+    Ok(heard_in(alloc, limits, &others)?.counted.dials)
 }
 
 /// Of which other unit the times of a deck look, if they do, where this is heard in its rows.
@@ -139,7 +165,8 @@ pub(crate) fn wrong_unit(
     heard: Heard,
     rows: &[Row],
 ) -> Result<Option<Unit>, AllocError>
-    requires { IsHeard limits rows.now heard }
+    requires few { length rows.now < 2 ^ 32 }
+    requires heard { IsHeard limits rows.now heard }
     ensures { IfOk result (λ unit. unit ≡ wrong_unit limits rows.now) }
 {
     if are_seconds(limits, heard, rows) {

@@ -1,5 +1,5 @@
 // What is suspicious in all rows of a deck together.
-ghost use Rattle.std.specs.Prelude.{◌≡◌, IfOk, nat_le};
+ghost use Rattle.std.specs.Prelude.{◌≡◌, ◌<◌, ◌^◌, IfOk, length, nat_le};
 ghost use Rattle.xb_doubts.specs.declared.counted.TheConstants.{LEAST_RINGS};
 ghost use Rattle.xb_doubts.specs.Ringing.{is_ringing};
 ghost use Rattle.xb_doubts.specs.Units.{wrong_unit};
@@ -28,10 +28,11 @@ fn is_ringing(heard: Heard) -> bool
 
 /// What is suspicious in rows by these limits. `Err` where memory ran out.
 pub fn whole_of(alloc: Global, limits: Limits, rows: &[Row]) -> Result<Whole, AllocError>
+    requires { length rows.now < 2 ^ 32 }
     ensures unit { IfOk result (λ whole. whole.unit ≡ wrong_unit limits rows.now) }
     ensures ringing { IfOk result (λ whole. whole.is_ringing ≡ is_ringing limits rows.now) }
 {
-    let heard = heard_in(alloc, limits, 1, rows)?;
+    let heard = heard_in(alloc, limits, rows)?;
     let unit = wrong_unit(alloc, limits, heard, rows)?;
     Ok(Whole {
         unit,

@@ -20,7 +20,8 @@ use Rattle.xb_ear.proofs.Near.{one-bound, within-drop, within-take}
 use Rattle.xb_ear.proofs.OneTone.{one-tone-is-no-key, sees-none-in, weak_at}
 use Rattle.xb_ear.proofs.Received.{nothing-sounds}
 use Rattle.xb_ear.proofs.Runs.{IsLoose, loose-step, none-resets}
-use Rattle.xb_ear.proofs.Segments.{between, drops, sees}
+use Rattle.xb_ear.proofs.Segments.{between, sees}
+use Rattle.xb_sound.proofs.ClearKeys.{drops}
 use Rattle.xb_ear.proofs.Shown.{silence-shows, still}
 use Rattle.xb_ear.proofs.Steps.{Known, after, after_all, gives, gives_all, known}
 use Rattle.xb_ear.proofs.WholeSounds.{quiet-within}

@@ -14,13 +14,12 @@ use Rattle.xb_sound.specs.declared.cadence.Cadence.{Cadence}
 use Rattle.xb_sound.specs.Cadences.{tone_ms}
 use Rattle.xb_sound.specs.HeardKeys.{AreKeyed, IsKey}
 use Rattle.xb_sound.specs.Sines.{pair_sample}
-use Rattle.xb_sound.specs.Sounds.{silence}
-use Rattle.xb_ear.specs.Disturbed.{bounded}
 use Rattle.xb_ear.specs.HeardKeys.{IsHearableUnlike, MOST_NOISE, MOST_NOISE_IN_TONES, disturbable, mark_disturbable}
 use Rattle.xb_ear.specs.LongRuns.{needed_of}
-use Rattle.xb_ear.proofs.HeardKeys.{long-enough, more-zeros, part-long, zeros}
+use Rattle.xb_ear.proofs.HeardKeys.{lead-goes-on, long-enough, part-long, tone-parts}
 use Rattle.xb_ear.proofs.Runs.{needed-range}
-use Rattle.xb_ear.proofs.Segments.{drops, inside, part_of}
+use Rattle.xb_ear.proofs.Segments.{inside, part_of}
+use Rattle.xb_sound.proofs.ClearKeys.{drops}
 use Rattle.xb_ear.proofs.Shown.{still, still-anywhere}
 use Rattle.xb_ear.proofs.Mixes.{cleans}
 
@@ -94,14 +93,9 @@ module _ (P : List ℤ → Type 0) (holds : HoldsOfEdges P) (cadence : Cadence) 
       quiet-window past [] z w from
       (omega (arith, to, quiet-long, length-append past (quiet ++ []), length-append quiet []))
   each-window (Trunk t ∷ marks) keyed past z w from to =
-      let lead : ℕ = cadence.lead_ms * 8 in
-      let rest = disturbable cadence marks in
-      let pause = bounded MOST_NOISE (silence cadence.lead_ms) in
-      let same : part_of still MOST_NOISE z ++ (pause ++ rest) ≡ part_of still MOST_NOISE (z + lead) ++ rest =
-      sym (append_assoc (part_of still MOST_NOISE z) pause rest)
-      ∙ ap (λ (xs : List (ℤ × ℕ)). xs ++ rest) (more-zeros z lead) in
+      let same = lead-goes-on cadence z (disturbable cadence marks) in
       subst (λ (xs : List (ℤ × ℕ)). P (cleans (take 80 (drop (20 * w) (past ++ xs))))) (sym same)
-      (each-window marks keyed.1 past (z + lead) w from
+      (each-window marks keyed.1 past (z + cadence.lead_ms * 8) w from
       (subst (λ (xs : List (ℤ × ℕ)). 20 * w + 80 ≤ length (past ++ xs)) same to))
   each-window (Refused reason count ∷ marks) keyed past z w from to = each-window marks keyed.1 past z w from to
   each-window (Tone key p ∷ marks) keyed past z w from to =
@@ -118,10 +112,7 @@ module _ (P : List ℤ → Type 0) (holds : HoldsOfEdges P) (cadence : Cadence) 
       let begin : ℕ = length past + z in
       let end : ℕ = begin + m in
       let parts : mark_disturbable cadence (Tone key p) ≡ tone ++ pause =
-      ap (λ (xs : List (ℤ × ℕ)). xs ++ bounded MOST_NOISE (silence cadence.gap_ms))
-      (ap (λ (r : Pair). bounded MOST_NOISE_IN_TONES (map (λ n. pair_sample r n) (range_with_len 0 m))) keyed.0.1
-      ∙ map-map (λ (x : ℤ). (x, MOST_NOISE_IN_TONES)) f (range_with_len 0 m))
-      ∙ ap (λ (xs : List (ℤ × ℕ)). tone ++ xs) (zeros gap 0) in
+      ap (λ (r : Pair). mark_disturbable cadence (Tone key r)) keyed.0.1 ∙ tone-parts cadence key q in
       let needed : needed_of (Some q) * 20 + 80 ≤ m = long-enough cadence lawful key keyed.0.0 in
       let long : 240 ≤ m = omega (arith, needed, (needed-range (Some q)).0) in
       let past2 = past ++ quiet in

@@ -17,7 +17,7 @@ use Rattle.xb_sound.specs.Sines.{pair_sample}
 use Rattle.xb_sound.specs.Sounds.{silence}
 use Rattle.xb_sound.proofs.KeyWaves.{each_digit}
 use Rattle.xb_ear.specs.Disturbed.{bounded}
-use Rattle.xb_ear.specs.Ears.{heard, seen_at, sights, windows_in}
+use Rattle.xb_ear.specs.Ears.{heard, seen_at, sight_at, sights, windows_in}
 use Rattle.xb_ear.specs.HeardKeys.{AreUnlike, IsHearableUnlike, MOST_NOISE, MOST_NOISE_IN_TONES, disturbable, mark_disturbable, pairs_in, tones_of}
 use Rattle.xb_ear.specs.Hearings.{silent}
 use Rattle.xb_ear.specs.LongRuns.{is_same_label, label, needed_of, one}
@@ -26,6 +26,7 @@ use Rattle.xb_ear.proofs.Runs.{Gives, HasArrived, gives-then, label-same, stays}
 use Rattle.xb_ear.proofs.Segments.{AreMatched, ShowsBy, Within, all-in-range, between, part-turns, part_of, pause-turns, pause-whole, range-split, sees, sees-part, shows-within}
 use Rattle.xb_ear.proofs.Shown.{silence-shows, still}
 use Rattle.xb_ear.proofs.ShownKeys.{shows-key}
+use Rattle.xb_ear.proofs.Standing.{Sees}
 use Rattle.xb_ear.proofs.Steps.{Known, after_all, gives_all, known, pairs-heard, whole, whole-append}
 
 -- silence, as a part
@@ -37,6 +38,28 @@ pub more-zeros : (z n : ℕ) → part_of still MOST_NOISE z ++ bounded MOST_NOIS
 more-zeros z n =
     ap (λ (xs : List (ℤ × ℕ)). part_of still MOST_NOISE z ++ xs) (zeros n (0 + z))
     ∙ sym (range-split (λ k. (still k, MOST_NOISE)) 0 z n (z + n) refl)
+
+-- a silence goes on through the one before the keys of a trunk
+pub lead-goes-on : (cadence : Cadence) (z : ℕ) (rest : List (ℤ × ℕ))
+    → part_of still MOST_NOISE z ++ (bounded MOST_NOISE (silence cadence.lead_ms) ++ rest)
+    ≡ part_of still MOST_NOISE (z + cadence.lead_ms * 8) ++ rest
+lead-goes-on cadence z rest =
+    sym (append_assoc (part_of still MOST_NOISE z) (bounded MOST_NOISE (silence cadence.lead_ms)) rest)
+    ∙ ap (λ (xs : List (ℤ × ℕ)). xs ++ rest) (more-zeros z (cadence.lead_ms * 8))
+
+-- the tone of a key, and the gap after it
+abbrev pub toned : Cadence → Key → Pair → List (ℤ × ℕ)
+toned cadence key p = part_of (λ n. pair_sample p n) MOST_NOISE_IN_TONES (tone_ms cadence key * 8)
+
+abbrev pub gapped : Cadence → List (ℤ × ℕ)
+gapped cadence = part_of still MOST_NOISE (cadence.gap_ms * 8)
+
+pub tone-parts : (cadence : Cadence) (key : Key) (p : Pair)
+    → mark_disturbable cadence (Tone key p) ≡ toned cadence key p ++ gapped cadence
+tone-parts cadence key p =
+    ap (λ (xs : List (ℤ × ℕ)). xs ++ bounded MOST_NOISE (silence cadence.gap_ms))
+    (map-map (λ (x : ℤ). (x, MOST_NOISE_IN_TONES)) (λ (n : ℕ). pair_sample p n) (range_with_len 0 (tone_ms cadence key * 8)))
+    ∙ ap (λ (xs : List (ℤ × ℕ)). toned cadence key p ++ xs) (zeros (cadence.gap_ms * 8) 0)
 
 -- how long a part is
 pub part-long : (f : ℕ → ℤ) (noise m : ℕ) → length (part_of f noise m) ≡ m
@@ -119,6 +142,82 @@ disturbed-show = record {
       shows-within MOST_NOISE_IN_TONES (λ k. pair_sample (mf_pair key) k) (Some (mf_pair key)) (shows-key key is);
 }
 
+-- a sound has a tone and its gap after what is past and a silence: where they are, and how samples stand to it
+pub record HasTone (R : ℕ → List (ℤ × ℕ) → List ℤ → Type 0) (cadence : Cadence) (key : Key) (p : Pair) (past : List (ℤ × ℕ))
+    (z : ℕ) (later : List (ℤ × ℕ)) (samples : List ℤ) : Type 0 where
+  pub begins : length (past ++ part_of still MOST_NOISE z) ≡ length past + z
+  pub ends : length ((past ++ part_of still MOST_NOISE z) ++ toned cadence key p) ≡ length past + z + tone_ms cadence key * 8
+  pub fits : length past + z + tone_ms cadence key * 8 ≤ length samples
+  pub long : length (mark_disturbable cadence (Tone key p) ++ later) ≡ tone_ms cadence key * 8 + cadence.gap_ms * 8 + length later
+  pub quiet : AreMatched R (past ++ (part_of still MOST_NOISE z ++ ((toned cadence key p ++ gapped cadence) ++ later))) samples
+  pub sound : AreMatched R ((past ++ part_of still MOST_NOISE z) ++ (toned cadence key p ++ (gapped cadence ++ later))) samples
+  pub after : AreMatched R (((past ++ part_of still MOST_NOISE z) ++ toned cadence key p) ++ (gapped cadence ++ later)) samples
+
+pub has-tone : (R : ℕ → List (ℤ × ℕ) → List ℤ → Type 0) (cadence : Cadence) (key : Key) (p : Pair) (past : List (ℤ × ℕ)) (z : ℕ)
+    (later : List (ℤ × ℕ)) (samples : List ℤ)
+    → AreMatched R (past ++ (part_of still MOST_NOISE z ++ (mark_disturbable cadence (Tone key p) ++ later))) samples
+    → HasTone R cadence key p past z later samples
+has-tone R cadence key p past z later samples near =
+    let m : ℕ = tone_ms cadence key * 8 in
+    let gap : ℕ = cadence.gap_ms * 8 in
+    let quiet = part_of still MOST_NOISE z in
+    let tone = toned cadence key p in
+    let pause = gapped cadence in
+    let tone-long : length tone ≡ m = part-long (λ n. pair_sample p n) MOST_NOISE_IN_TONES m in
+    let pause-long : length pause ≡ gap = part-long still MOST_NOISE gap in
+    let parts : mark_disturbable cadence (Tone key p) ≡ tone ++ pause = tone-parts cadence key p in
+    let near1 : AreMatched R (past ++ (quiet ++ ((tone ++ pause) ++ later))) samples =
+    subst (λ (xs : List (ℤ × ℕ)). AreMatched R (past ++ (quiet ++ (xs ++ later))) samples) parts near in
+    let past2 = past ++ quiet in
+    let at2 : length past2 ≡ length past + z = omega (arith, length-append past quiet, part-long still MOST_NOISE z) in
+    let near2 : AreMatched R (past2 ++ (tone ++ (pause ++ later))) samples =
+    subst (λ (xs : List (ℤ × ℕ)). AreMatched R xs samples)
+    (ap (λ (xs : List (ℤ × ℕ)). past ++ (quiet ++ xs)) (append_assoc tone pause later)
+    ∙ sym (append_assoc past quiet (tone ++ (pause ++ later)))) near1 in
+    let at3 : length (past2 ++ tone) ≡ length past + z + m = omega (arith, length-append past2 tone, at2, tone-long) in
+    let fits : length past + z + m ≤ length samples =
+    omega (
+      arith,
+      at2,
+      tone-long,
+      near2.long,
+      length-append past2 (tone ++ (pause ++ later)),
+      length-append tone (pause ++ later),
+    ) in
+    let sound-long : length (mark_disturbable cadence (Tone key p) ++ later) ≡ m + gap + length later =
+    length-append (mark_disturbable cadence (Tone key p)) later
+    ∙ ap (λ (n : ℕ). n + length later) (ap (λ (xs : List (ℤ × ℕ)). length xs) parts ∙ length-append tone pause
+    ∙ ap (λ (n : ℕ). n + length pause) tone-long ∙ ap (λ (n : ℕ). m + n) pause-long) in
+    let near3 : AreMatched R ((past2 ++ tone) ++ (pause ++ later)) samples =
+    subst (λ (xs : List (ℤ × ℕ)). AreMatched R xs samples) (sym (append_assoc past2 tone (pause ++ later))) near2 in
+    record {
+      begins = at2;
+      ends = at3;
+      fits = fits;
+      long = sound-long;
+      quiet = near1;
+      sound = near2;
+      after = near3;
+    }
+
+-- each window of the tone sees its pair
+pub tone-seen : (R : ℕ → List (ℤ × ℕ) → List ℤ → Type 0) → ShowKeys R → (cadence : Cadence) (key : Key) (p : Pair)
+    → IsKey key → p ≡ mf_pair key → (past : List (ℤ × ℕ)) (z : ℕ) (later : List (ℤ × ℕ)) (samples : List ℤ)
+    → HasTone R cadence key p past z later samples → (w : ℕ) → length past + z ≤ 20 * w
+    → 20 * w + 80 ≤ length past + z + tone_ms cadence key * 8 → Sees (Some p) (sight_at samples w)
+tone-seen R show cadence key p is same past z later samples tone w from to =
+    let shows : ShowsBy R MOST_NOISE_IN_TONES (λ n. pair_sample p n) (Some p) =
+    subst (λ (q : Pair). ShowsBy R MOST_NOISE_IN_TONES (λ n. pair_sample q n) (Some q)) (sym same) (show.of_key key is) in
+    sees-part R (λ n. pair_sample p n) MOST_NOISE_IN_TONES (Some p) shows (past ++ part_of still MOST_NOISE z)
+    (gapped cadence ++ later) samples (tone_ms cadence key * 8) w tone.sound
+    (omega (arith, tone.begins, from)) (omega (arith, tone.begins, to))
+
+-- and there are enough of them
+pub tone-enough : (cadence : Cadence) → IsHearableUnlike cadence → (key : Key) (p : Pair) → IsKey key → p ≡ mf_pair key
+    → needed_of (Some p) * 20 + 80 ≤ tone_ms cadence key * 8
+tone-enough cadence lawful key p is same =
+    subst (λ (q : Pair). needed_of (Some q) * 20 + 80 ≤ tone_ms cadence key * 8) (sym same) (long-enough cadence lawful key is)
+
 module _ (R : ℕ → List (ℤ × ℕ) → List ℤ → Type 0) (show : ShowKeys R) (cadence : Cadence) (lawful : IsHearableUnlike cadence)
     (samples : List ℤ) (low : AreLow samples) where
   sees-still : (past rest : List (ℤ × ℕ)) (z : ℕ) → AreMatched R (past ++ (part_of still MOST_NOISE z ++ rest)) samples
@@ -187,9 +286,6 @@ module _ (R : ℕ → List (ℤ × ℕ) → List ℤ → Type 0) (show : ShowKey
       let lead : ℕ = cadence.lead_ms * 8 in
       let rest = disturbable cadence marks in
       let pause = bounded MOST_NOISE (silence cadence.lead_ms) in
-      let same : part_of still MOST_NOISE z ++ (pause ++ rest) ≡ part_of still MOST_NOISE (z + lead) ++ rest =
-      sym (append_assoc (part_of still MOST_NOISE z) pause rest)
-      ∙ ap (λ (xs : List (ℤ × ℕ)). xs ++ rest) (more-zeros z lead) in
       let more : IsPaused (cadence.gap_ms * 8) a past (z + lead) = elim paused [
         | inl first ↦ inl first
         | inr later ↦ inr (later.0, omega (arith, later.1))
@@ -197,67 +293,29 @@ module _ (R : ℕ → List (ℤ × ℕ) → List ℤ → Type 0) (show : ShowKey
       let pause-long : length pause ≡ lead =
       length-map (silence cadence.lead_ms) (λ x. (x, MOST_NOISE)) ∙ length-replicate lead (pos 0) in
       from-quiet marks keyed.1 past (z + lead) a k arrived more told
-      (subst (λ (xs : List (ℤ × ℕ)). AreMatched R (past ++ xs) samples) same near) total
+      (subst (λ (xs : List (ℤ × ℕ)). AreMatched R (past ++ xs) samples) (lead-goes-on cadence z rest) near) total
       (omega (arith, is, length-append pause rest, pause-long))
   from-quiet (Refused reason count ∷ marks) keyed past z a k arrived paused told near total is =
       from-quiet marks keyed.1 past z a k arrived paused told near total is
   from-quiet (Tone key p ∷ marks) keyed past z a k arrived paused told near total is =
       let j = sees samples in
-      let f : ℕ → ℤ = λ n. pair_sample p n in
-      let m : ℕ = tone_ms cadence key * 8 in
-      let gap : ℕ = cadence.gap_ms * 8 in
-      let quiet = part_of still MOST_NOISE z in
-      let tone = part_of f MOST_NOISE_IN_TONES m in
-      let pause = part_of still MOST_NOISE gap in
       let later = disturbable cadence marks in
-      let quiet-long : length quiet ≡ z = part-long still MOST_NOISE z in
-      let tone-long : length tone ≡ m = part-long f MOST_NOISE_IN_TONES m in
-      let pause-long : length pause ≡ gap = part-long still MOST_NOISE gap in
       let from : ℕ = length past in
       let to : ℕ = from + z in
-      let end : ℕ = to + m in
-      let parts : mark_disturbable cadence (Tone key p) ≡ tone ++ pause =
-      ap (λ (xs : List (ℤ × ℕ)). xs ++ bounded MOST_NOISE (silence cadence.gap_ms))
-      (map-map (λ (x : ℤ). (x, MOST_NOISE_IN_TONES)) f (range_with_len 0 m))
-      ∙ ap (λ (xs : List (ℤ × ℕ)). tone ++ xs) (zeros gap 0) in
-      let shows : ShowsBy R MOST_NOISE_IN_TONES f (Some p) =
-      subst (λ (q : Pair). ShowsBy R MOST_NOISE_IN_TONES (λ n. pair_sample q n) (Some q)) (sym keyed.0.1) (show.of_key key keyed.0.0) in
-      let long : needed_of (Some p) * 20 + 80 ≤ m =
-      subst (λ (q : Pair). needed_of (Some q) * 20 + 80 ≤ m) (sym keyed.0.1) (long-enough cadence lawful key keyed.0.0) in
-      let near1 : AreMatched R (past ++ (quiet ++ ((tone ++ pause) ++ later))) samples =
-      subst (λ (xs : List (ℤ × ℕ)). AreMatched R (past ++ (quiet ++ (xs ++ later))) samples) parts near in
-      let past2 = past ++ quiet in
-      let at2 : length past2 ≡ to = omega (arith, length-append past quiet, quiet-long) in
-      let near2 : AreMatched R (past2 ++ (tone ++ (pause ++ later))) samples =
-      subst (λ (xs : List (ℤ × ℕ)). AreMatched R xs samples)
-      (ap (λ (xs : List (ℤ × ℕ)). past ++ (quiet ++ xs)) (append_assoc tone pause later)
-      ∙ sym (append_assoc past quiet (tone ++ (pause ++ later)))) near1 in
-      let ends : end ≤ length samples =
-      omega (
-        arith,
-        at2,
-        tone-long,
-        near2.long,
-        length-append past2 (tone ++ (pause ++ later)),
-        length-append tone (pause ++ later),
-      ) in
+      let end : ℕ = to + tone_ms cadence key * 8 in
+      let tone = has-tone R cadence key p past z later samples near in
       let sees-tone : (w : ℕ) → to ≤ 20 * w → 20 * w + 80 ≤ end → sees samples w ≡ Some p =
-      λ w from to. sees-key samples low p w (omega (arith, to, ends))
-      (sees-part R f MOST_NOISE_IN_TONES (Some p) shows past2 (pause ++ later) samples m w near2
-      (omega (arith, at2, from)) (omega (arith, at2, to))) in
-      let turned = quiet-tone past ((tone ++ pause) ++ later) z m a p k arrived
-      (told-ready (cadence.gap_ms * 8) a p past z paused told.0) near1 long sees-tone in
+      λ w from to. sees-key samples low p w (omega (arith, to, tone.fits))
+      (tone-seen R show cadence key p keyed.0.0 keyed.0.1 past z later samples tone w from to) in
+      let turned = quiet-tone past ((toned cadence key p ++ gapped cadence) ++ later) z (tone_ms cadence key * 8) a p k arrived
+      (told-ready (cadence.gap_ms * 8) a p past z paused told.0) tone.quiet
+      (tone-enough cadence lawful key p keyed.0.0 keyed.0.1) sees-tone in
       let k2 : Known = after_all k (between j from to ++ between j to end) in
-      let past3 = past2 ++ tone in
-      let at3 : length past3 ≡ end = omega (arith, length-append past2 tone, at2, tone-long) in
-      let near3 : AreMatched R (past3 ++ (pause ++ later)) samples =
-      subst (λ (xs : List (ℤ × ℕ)). AreMatched R xs samples) (sym (append_assoc past2 tone (pause ++ later))) near2 in
-      let sound-long : length (mark_disturbable cadence (Tone key p) ++ later) ≡ m + gap + length later =
-      length-append (mark_disturbable cadence (Tone key p)) later
-      ∙ ap (λ (n : ℕ). n + length later) (ap (λ (xs : List (ℤ × ℕ)). length xs) parts ∙ length-append tone pause
-      ∙ ap (λ (n : ℕ). n + length pause) tone-long ∙ ap (λ (n : ℕ). m + n) pause-long) in
-      let all : total ≡ length past3 + gap + length later = omega (arith, is, at3, sound-long) in
-      let rest = from-quiet marks keyed.1 past3 gap (Some p) k2 turned.arrived (inr (refl, omega arith)) told.1 near3 total all in
+      let past3 = (past ++ part_of still MOST_NOISE z) ++ toned cadence key p in
+      let at3 : length past3 ≡ end = tone.ends in
+      let all : total ≡ length past3 + cadence.gap_ms * 8 + length later = omega (arith, is, at3, tone.long) in
+      let rest = from-quiet marks keyed.1 past3 (cadence.gap_ms * 8) (Some p) k2 turned.arrived (inr (refl, omega arith)) told.1
+      tone.after total all in
       let rest-at : whole k2 (between j end total) ≡ p ∷ tones_of marks =
       subst (λ (n : ℕ). whole k2 (between j n total) ≡ p ∷ tones_of marks) at3 rest in
       let before : end ≤ total = omega (arith, all, at3) in

@@ -39,3 +39,4 @@ pub mod Edges
 pub mod LouderSines
 pub mod LoudWaves
 pub mod LouderKeys
+pub mod Echoes

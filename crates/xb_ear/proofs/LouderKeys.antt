@@ -6,8 +6,7 @@ use Rattle.std.proofs.lemmas.Bool.{cases_lt, false≢true, leb-true}
 use Rattle.std.proofs.lemmas.Int.{ints}
 use Rattle.std.proofs.lemmas.List.{length-map}
 use Rattle.std.proofs.lemmas.List.FromFn.{length-map-range_with_len}
-use Rattle.std.proofs.lemmas.Nat.{div-add-mod', mod_below, mul-le}
-use Rattle.std.proofs.lemmas.Simd.{map-map}
+use Rattle.std.proofs.lemmas.Nat.{mod_below, mul-le}
 use Rattle.xb_model.specs.declared.key.Key.{Key}
 use Rattle.xb_model.specs.declared.key.Key.TheVariants.{Digit, Kp, St}
 use Rattle.xb_model.specs.declared.key.Tone.{Tone as Pair}
@@ -19,10 +18,9 @@ use Rattle.xb_sound.specs.HeardKeys.{AreKeyed, IsKey}
 use Rattle.xb_sound.specs.Sines.{pair_sample, sine_table}
 use Rattle.xb_sound.specs.Sounds.{sound_of}
 use Rattle.xb_sound.proofs.KeyWaves.{each_digit}
-use Rattle.xb_sound.proofs.Places.{pair_sample-turns}
 use Rattle.xb_sound.proofs.SineTables.{holds_below}
 use Rattle.xb_ear.specs.declared.levels.Levels.{Levels}
-use Rattle.xb_ear.specs.declared.steady.TheConstants.{STEADY_WINDOWS}
+use Rattle.xb_ear.specs.declared.hum.TheConstants.{STEADY_WINDOWS}
 use Rattle.xb_ear.specs.Beside.{AreHeardBesideLouderSines, HoldsLittleOf, IsBeside, IsBorne, IsSineOf, LiesBeside, LouderSinesAreBorne, mixed}
 use Rattle.xb_ear.specs.Disturbed.{IsNear, bounded}
 use Rattle.xb_ear.specs.Ears.{least_before, window, windows_in}
@@ -42,13 +40,13 @@ use Rattle.xb_ear.proofs.Near.{far_squares, near-length, near-squares}
 use Rattle.xb_ear.proofs.Others.{six_waves}
 use Rattle.xb_ear.proofs.Scaled.{scaled}
 use Rattle.xb_ear.proofs.Segments.{AreMatched, ShowsBy}
-use Rattle.xb_ear.proofs.Shown.{still, turned}
+use Rattle.xb_ear.proofs.Shown.{still}
 use Rattle.xb_ear.proofs.Standing.{and-both, sees-pair-steady, shows_clear}
 use Rattle.xb_ear.proofs.SteadySines.{IsEnough, IsLittle, is-steady, little-100, little-200, little-2600, little-300, sine-beside, both-waves, window-near, steady_sines_are_borne}
 use Rattle.xb_ear.proofs.WholeSounds.{heard-after-gaps}
 use Rattle.xb_ear.proofs.LoudWaves.{by-own, cosine-at, cosines_from, IsLoud, loud-100, loud-200, loud-2600, loud-300, much-left, sine-at, sines_from, turn-sum}
 use Rattle.xb_ear.proofs.Products.{times}
-use Rattle.xb_ear.proofs.Mixes.{IsMix, above-lowers, below-highers, clean-sound, cleans, highers, mixed-long, pairs-long, power_most, squares-most, still-mixed, window-mix}
+use Rattle.xb_ear.proofs.Mixes.{IsMix, above-lowers, below-highers, clean-sound, cleans, from-place, highers, mixed-long, pairs-long, power_most, squares-most, still-mixed, window-mix}
 
 -- one of two parts is great
 one-great : (x y : ℕ) → 132250000 ≤ x * x + y * y → (8131 ≤ x) ⊎ (8131 ≤ y)
@@ -126,11 +124,8 @@ shown_loud a b known all within little k n ys loud = elim loud.1.least [
       let mix = loud.1.mix in
       let r : ℕ = n % 80 in
       let rest : r < 80 = mod_below n 80 (omega arith) in
-      let whole : n ≡ n / 80 * 80 + r = sym (div-add-mod' n 80) in
       let clean = map f (range_with_len r 80) in
-      let same : cleans (map (λ k. (f k, MOST_NOISE_IN_TONES)) (range_with_len n 80)) ≡ clean =
-      map-map (λ (x : ℤ × ℕ). x.0) (λ k. (f k, MOST_NOISE_IN_TONES)) (range_with_len n 80)
-      ∙ turned f (pair_sample-turns a b) 80 n (n / 80) r whole in
+      let same : cleans (map (λ k. (f k, MOST_NOISE_IN_TONES)) (range_with_len n 80)) ≡ clean = from-place a b n in
       let many : length clean ≡ 80 = length-map-range_with_len f r 80 in
       let ours : length ds ≡ 80 = mix.long ∙ pairs-long f MOST_NOISE_IN_TONES n in
       let long : length ds ≡ length clean = ours ∙ sym many in

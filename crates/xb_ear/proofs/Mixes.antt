@@ -25,7 +25,7 @@ use Rattle.xb_ear.specs.HeardKeys.{MOST_NOISE, MOST_NOISE_IN_TONES, disturbable}
 use Rattle.xb_ear.specs.Hearings.{is_same_pair}
 use Rattle.xb_ear.specs.Levels.{correlated, cosine_of, level, levels_of, power, sine_of, squares}
 use Rattle.xb_ear.specs.Pairs.{mf_pairs}
-use Rattle.xb_ear.proofs.Bounds.{IsBelow, IsWithinReach, REACH, least, lowers, most, part-least, part-most, reach-1100, reach-1300, reach-1500, reach-1700, reach-700, reach-900, square-mono}
+use Rattle.xb_ear.proofs.Bounds.{IsBelow, IsWithinReach, REACH, least, lowers, most, part-least, part-most, reach-1100, reach-1300, reach-1500, reach-1700, reach-700, reach-900, square-mono, uppers}
 use Rattle.xb_ear.proofs.Mixed.{correlated-agrees, correlated-mixed, correlated-sum, drop-mixed, mixed-length, squares-mixed, take-mixed}
 use Rattle.xb_ear.proofs.Near.{far_squares, near-correlated, near-drop, near-length, near-squares, near-take, reach}
 use Rattle.xb_ear.proofs.Segments.{AreMatched, ShowsBy}
@@ -37,17 +37,9 @@ pub record IsBound (noise : ℕ) (bound : ℕ → ℕ) : Type 0 where
   pub most : (xs : List ℤ) → length xs ≡ 80 → far_squares noise xs ≤ bound (squares xs)
   pub grows : (p q : ℕ) → p ≤ q → bound p ≤ bound q
 
--- levels that a window has at most
+-- levels that a window has at most, with this power
 abbrev pub highers : ℕ → ℕ → List ℤ → Levels
-highers n power clean = record {
-  hz700 = most n clean 700;
-  hz900 = most n clean 900;
-  hz1100 = most n clean 1100;
-  hz1300 = most n clean 1300;
-  hz1500 = most n clean 1500;
-  hz1700 = most n clean 1700;
-  power = power;
-}
+highers n power clean = record (uppers n clean) { power = power }
 
 -- 80 clean samples that are mixed with others, and then changed
 module _ (noise amplitude : ℕ) (clean ds ys : List ℤ) (many : length clean ≡ 80) (long : length ds ≡ length clean)
@@ -174,6 +166,15 @@ module _ (a b : ℕ) (ds : List ℤ) (long : length ds ≡ 80) (low : HoldsLittl
       let sum = squares-mixed tone r 0 r 80 ds start long in
       omega (arith, ints, sum, cross r, loud)
 
+-- a window of a wave of two tones is that from its place in their period on
+pub from-place : (a b n : ℕ)
+    → cleans (map (λ k. (pair_sample (pair (a * 100) (b * 100)) k, MOST_NOISE_IN_TONES)) (range_with_len n 80))
+    ≡ map (λ k. pair_sample (pair (a * 100) (b * 100)) k) (range_with_len (n % 80) 80)
+from-place a b n =
+    let f : ℕ → ℤ = λ k. pair_sample (pair (a * 100) (b * 100)) k in
+    map-map (λ (x : ℤ × ℕ). x.0) (λ k. (f k, MOST_NOISE_IN_TONES)) (range_with_len n 80)
+    ∙ turned f (pair_sample-turns a b) 80 n (n / 80) (n % 80) (sym (div-add-mod' n 80))
+
 module _ (noise amplitude : ℕ) (bound : ℕ → ℕ) (is_bound : IsBound noise bound) where
   abbrev ShowsMixed : ℕ → (ℕ → ℤ) → Option Pair → Type 0
   ShowsMixed n f b = ShowsBy (Mix noise amplitude) n f b
@@ -188,11 +189,8 @@ module _ (noise amplitude : ℕ) (bound : ℕ → ℕ) (is_bound : IsBound noise
       let ds = mix.0 in
       let r : ℕ = n % 80 in
       let rest : r < 80 = mod_below n 80 (omega arith) in
-      let whole : n ≡ n / 80 * 80 + r = sym (div-add-mod' n 80) in
       let clean = map f (range_with_len r 80) in
-      let same : cleans (map (λ k. (f k, MOST_NOISE_IN_TONES)) (range_with_len n 80)) ≡ clean =
-      map-map (λ (x : ℤ × ℕ). x.0) (λ k. (f k, MOST_NOISE_IN_TONES)) (range_with_len n 80)
-      ∙ turned f (pair_sample-turns a b) 80 n (n / 80) r whole in
+      let same : cleans (map (λ k. (f k, MOST_NOISE_IN_TONES)) (range_with_len n 80)) ≡ clean = from-place a b n in
       let many : length clean ≡ 80 = length-map-range_with_len f r 80 in
       let ours : length ds ≡ 80 = mix.1.long ∙ pairs-long f MOST_NOISE_IN_TONES n in
       let long : length ds ≡ length clean = ours ∙ sym many in

@@ -25,7 +25,8 @@ use Rattle.xb_ear.proofs.Near.{near-correlated, near-drop, near-take, reach}
 use Rattle.xb_ear.proofs.Received.{nothing-heard}
 use Rattle.xb_ear.proofs.Runs.{stays}
 use Rattle.xb_ear.proofs.Scaled.{scaled, scaled-drop, scaled-take, size-scaled}
-use Rattle.xb_ear.proofs.Segments.{all-in-range, between, drops, sees}
+use Rattle.xb_ear.proofs.Segments.{all-in-range, between, sees}
+use Rattle.xb_sound.proofs.ClearKeys.{drops}
 use Rattle.xb_ear.proofs.Shown.{turned}
 use Rattle.xb_ear.proofs.Steps.{known}
 

@@ -16,7 +16,7 @@ neg-times x c =
     let nothing = zero-*ℤ c in
     omega (arith, ints, sum, nothing)
 
-regroup : (a x y : ℤ) → (a *ℤ x) *ℤ y ≡ a *ℤ (x *ℤ y)
+pub regroup : (a x y : ℤ) → (a *ℤ x) *ℤ y ≡ a *ℤ (x *ℤ y)
 regroup (pos k) x y = assoc k x y
 regroup (negsuc k) x y =
     let p : ℤ = pos (suc k) in

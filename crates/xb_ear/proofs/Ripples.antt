@@ -18,7 +18,7 @@ use Rattle.xb_ear.specs.Levels.{correlated, cosine_of, level, part, sine_of, squ
 use Rattle.xb_ear.proofs.Mixed.{correlated-agrees, correlated-mixed, drop-mixed, take-mixed}
 use Rattle.xb_ear.proofs.MixedKeys.{beside_is_borne}
 use Rattle.xb_ear.proofs.Places.{place-whole}
-use Rattle.xb_ear.proofs.Segments.{drops}
+use Rattle.xb_sound.proofs.ClearKeys.{drops}
 use Rattle.xb_ear.proofs.Windows.{window-fits}
 use Rattle.xb_ear.proofs.Products.{neg-times}
 

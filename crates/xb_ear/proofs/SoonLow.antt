@@ -1,24 +1,17 @@
 -- Of any five windows in a row of a disturbed sound one lies in a tone or in a silence, and so holds no more than a key.
-use Rattle.std.proofs.Common.{◌≡◌, ◌∙◌, ℕ, ◌+◌, ◌-◌, ◌*◌, ◌/◌, ◌<◌, ◌≤◌, true, List, [], ◌∷◌, ◌++◌, length, sym, ap, subst, arith, ℤ, Some, None, inl, inr, append_assoc, length-append}
-use Rattle.std.specs.List.{range_with_len}
+use Rattle.std.proofs.Common.{◌≡◌, ◌∙◌, ℕ, ◌+◌, ◌-◌, ◌*◌, ◌/◌, ◌<◌, ◌≤◌, true, List, [], ◌∷◌, ◌++◌, length, ap, subst, arith, ℤ, Some, None, inl, inr, length-append}
 use Rattle.std.proofs.lemmas.Bool.{cases_lt}
-use Rattle.std.proofs.lemmas.Simd.{map-map}
-use Rattle.xb_model.specs.declared.key.Tone.{Tone as Pair}
 use Rattle.xb_model.specs.declared.mark.Mark.{Mark}
 use Rattle.xb_model.specs.declared.mark.Mark.TheVariants.{Trunk, Tone, Refused}
 use Rattle.xb_sound.specs.declared.cadence.Cadence.{Cadence}
 use Rattle.xb_sound.specs.Cadences.{tone_ms}
 use Rattle.xb_sound.specs.HeardKeys.{AreKeyed}
-use Rattle.xb_sound.specs.Sines.{pair_sample}
-use Rattle.xb_sound.specs.Sounds.{silence}
-use Rattle.xb_ear.specs.Disturbed.{bounded}
 use Rattle.xb_ear.specs.Ears.{sight_at, windows_in}
-use Rattle.xb_ear.specs.HeardKeys.{IsHearableUnlike, MOST_NOISE, MOST_NOISE_IN_TONES, disturbable, mark_disturbable}
-use Rattle.xb_ear.specs.LongRuns.{needed_of}
+use Rattle.xb_ear.specs.HeardKeys.{IsHearableUnlike, MOST_NOISE, disturbable}
 use Rattle.xb_ear.proofs.Fading.{AreLow, IsSoonLow}
-use Rattle.xb_ear.proofs.HeardKeys.{ShowKeys, long-enough, more-zeros, part-long, zeros}
+use Rattle.xb_ear.proofs.HeardKeys.{ShowKeys, gapped, has-tone, lead-goes-on, part-long, tone-enough, tone-seen, toned}
 use Rattle.xb_ear.proofs.Runs.{needed-range}
-use Rattle.xb_ear.proofs.Segments.{AreMatched, ShowsBy, part_of, sees-part}
+use Rattle.xb_ear.proofs.Segments.{AreMatched, part_of, sees-part}
 use Rattle.xb_ear.proofs.Shown.{still}
 use Rattle.xb_ear.proofs.Standing.{is_low}
 
@@ -79,60 +72,32 @@ module _ (R : ℕ → List (ℤ × ℕ) → List ℤ → Type 0) (show : ShowKey
         },
       )
   from-still (Trunk t ∷ marks) keyed past z near w from below =
-      let lead : ℕ = cadence.lead_ms * 8 in
-      let rest = disturbable cadence marks in
-      let pause = bounded MOST_NOISE (silence cadence.lead_ms) in
-      let same : part_of still MOST_NOISE z ++ (pause ++ rest) ≡ part_of still MOST_NOISE (z + lead) ++ rest =
-      sym (append_assoc (part_of still MOST_NOISE z) pause rest)
-      ∙ ap (λ (xs : List (ℤ × ℕ)). xs ++ rest) (more-zeros z lead) in
-      from-still marks keyed.1 past (z + lead) (subst (λ (xs : List (ℤ × ℕ)). AreMatched R (past ++ xs) samples) same near) w from below
+      from-still marks keyed.1 past (z + cadence.lead_ms * 8)
+      (subst (λ (xs : List (ℤ × ℕ)). AreMatched R (past ++ xs) samples) (lead-goes-on cadence z (disturbable cadence marks)) near)
+      w from below
   from-still (Refused reason count ∷ marks) keyed past z near w from below =
       from-still marks keyed.1 past z near w from below
   from-still (Tone key p ∷ marks) keyed past z near w from below =
-      let f : ℕ → ℤ = λ n. pair_sample p n in
-      let m : ℕ = tone_ms cadence key * 8 in
       let gap : ℕ = cadence.gap_ms * 8 in
-      let quiet = part_of still MOST_NOISE z in
-      let tone = part_of f MOST_NOISE_IN_TONES m in
-      let pause = part_of still MOST_NOISE gap in
       let later = disturbable cadence marks in
-      let quiet-long : length quiet ≡ z = part-long still MOST_NOISE z in
-      let tone-long : length tone ≡ m = part-long f MOST_NOISE_IN_TONES m in
       let to : ℕ = length past + z in
-      let end : ℕ = to + m in
-      let parts : mark_disturbable cadence (Tone key p) ≡ tone ++ pause =
-      ap (λ (xs : List (ℤ × ℕ)). xs ++ bounded MOST_NOISE (silence cadence.gap_ms))
-      (map-map (λ (x : ℤ). (x, MOST_NOISE_IN_TONES)) f (range_with_len 0 m))
-      ∙ ap (λ (xs : List (ℤ × ℕ)). tone ++ xs) (zeros gap 0) in
-      let shows : ShowsBy R MOST_NOISE_IN_TONES f (Some p) =
-      subst (λ (q : Pair). ShowsBy R MOST_NOISE_IN_TONES (λ n. pair_sample q n) (Some q)) (sym keyed.0.1) (show.of_key key keyed.0.0) in
-      let needed : needed_of (Some p) * 20 + 80 ≤ m =
-      subst (λ (q : Pair). needed_of (Some q) * 20 + 80 ≤ m) (sym keyed.0.1) (long-enough cadence lawful key keyed.0.0) in
-      let long : 240 ≤ m = omega (arith, needed, (needed-range (Some p)).0) in
-      let near1 : AreMatched R (past ++ (quiet ++ ((tone ++ pause) ++ later))) samples =
-      subst (λ (xs : List (ℤ × ℕ)). AreMatched R (past ++ (quiet ++ (xs ++ later))) samples) parts near in
-      let past2 = past ++ quiet in
-      let at2 : length past2 ≡ to = omega (arith, length-append past quiet, quiet-long) in
-      let near2 : AreMatched R (past2 ++ (tone ++ (pause ++ later))) samples =
-      subst (λ (xs : List (ℤ × ℕ)). AreMatched R xs samples)
-      (ap (λ (xs : List (ℤ × ℕ)). past ++ (quiet ++ xs)) (append_assoc tone pause later)
-      ∙ sym (append_assoc past quiet (tone ++ (pause ++ later)))) near1 in
-      let past3 = past2 ++ tone in
-      let at3 : length past3 ≡ end = omega (arith, length-append past2 tone, at2, tone-long) in
-      let near3 : AreMatched R (past3 ++ (pause ++ later)) samples =
-      subst (λ (xs : List (ℤ × ℕ)). AreMatched R xs samples) (sym (append_assoc past2 tone (pause ++ later))) near2 in
-      let quiet-low : IsLowFrom (length past) to = still-low past ((tone ++ pause) ++ later) z near1 in
+      let end : ℕ = to + tone_ms cadence key * 8 in
+      let tone = has-tone R cadence key p past z later samples near in
+      let needed = tone-enough cadence lawful key p keyed.0.0 keyed.0.1 in
+      let long : 240 ≤ tone_ms cadence key * 8 = omega (arith, needed, (needed-range (Some p)).0) in
+      let past3 = (past ++ part_of still MOST_NOISE z) ++ toned cadence key p in
+      let at3 : length past3 ≡ end = tone.ends in
+      let quiet-low : IsLowFrom (length past) to = still-low past ((toned cadence key p ++ gapped cadence) ++ later) z tone.quiet in
       let tone-low : IsLowFrom to end =
-      λ w a b. (sees-part R f MOST_NOISE_IN_TONES (Some p) shows past2 (pause ++ later) samples m w near2
-      (omega (arith, at2, a)) (omega (arith, at2, b))).low in
+      λ w a b. (tone-seen R show cadence key p keyed.0.0 keyed.0.1 past z later samples tone w a b).low in
       let pause-low : IsLowFrom end (end + gap) =
-      λ w a b. still-low past3 later gap near3 w (omega (arith, at3, a)) (omega (arith, at3, b)) in
+      λ w a b. still-low past3 later gap tone.after w (omega (arith, at3, a)) (omega (arith, at3, b)) in
       elim (cases_lt (20 * w) to) [
         | inl in_quiet ↦ in-parts (length past) to end quiet-low tone-low (omega (arith, long)) w from in_quiet
         | inr past_quiet ↦ elim (cases_lt (20 * w) end) [
           | inl in_tone ↦ in-parts to end (end + gap) tone-low pause-low (omega (arith, lawful.gap)) w past_quiet in_tone
           | inr past_tone ↦
-              from-still marks keyed.1 past3 gap near3 w (omega (arith, at3, past_tone)) below
+              from-still marks keyed.1 past3 gap tone.after w (omega (arith, at3, past_tone)) below
         ]
       ]
 

@@ -26,11 +26,14 @@ MOST_STRENGTH = 417000000
 abbrev pub rest_of : Levels → Pair → ℕ
 rest_of levels q = all_levels levels - (level_at levels q.low + level_at levels q.high)
 
--- two levels surely stand out, by their bounds and one of the others
+-- two levels surely stand out, by their bounds and one of the others, where what lies beside is steady
+abbrev pub surely_clear : ℕ → ℕ → ℕ → ℕ → ℕ → Bool
+surely_clear l h ul uh others =
+    nat_le LEAST_LEVEL (min l h) && nat_le (max ul uh) (TWIST * min l h) && nat_le (CLEAR * others) (min l h)
+
+-- and where it is not
 abbrev pub surely : ℕ → ℕ → ℕ → ℕ → ℕ → ℕ → Bool
-surely l h ul uh others power =
-    nat_le LEAST_LEVEL (min l h) && nat_le (max ul uh) (TWIST * min l h)
-    && nat_le (CLEAR * others) (min l h) && nat_le (SHARE * power) (SHARE_OF * (l + h))
+surely l h ul uh others power = surely_clear l h ul uh others && nat_le (SHARE * power) (SHARE_OF * (l + h))
 
 -- a pair surely does not: one of its tones is weak, or the other is out of all proportion, or the rest drowns it
 abbrev pub is_weak : Levels → Pair → Bool
@@ -69,38 +72,10 @@ and-false false = refl
 abbrev is_most_or_steady : ℕ → ℕ → ℕ → ℕ → ℕ → Bool
 is_most_or_steady k x y sum p = nat_le (SHARE * p) (SHARE_OF * (x + y)) || nat_le ((p - sum) / STEADY) k
 
-surely-stands : (k l h ul uh others power x y sum p : ℕ) → surely l h ul uh others power ≡ true
-    → l ≤ x → x ≤ ul → h ≤ y → y ≤ uh → sum - (x + y) ≤ others → p ≤ power → stand_out k x y sum p ≡ true
-surely-stands k l h ul uh others power x y sum p is lx xu hy yu rest powers =
-    let s0 = and-both _ _ is in
-    let s1 = and-both _ _ s0.0 in
-    let s2 = and-both _ _ s1.0 in
-    let loud : LEAST_LEVEL ≤ min l h = leb-true _ _ s2.0 in
-    let even : max ul uh ≤ TWIST * min l h = leb-true _ _ s2.1 in
-    let clear : CLEAR * others ≤ min l h = leb-true _ _ s1.1 in
-    let most : SHARE * power ≤ SHARE_OF * (l + h) = leb-true _ _ s0.1 in
-    let more : min l h ≤ min x y = omega (arith, lx, hy) in
-    let top : max x y ≤ max ul uh = omega (arith, xu, yu) in
-    and-true _ _
-    (and-true _ _
-    (and-true _ _ (le-leb LEAST_LEVEL (min x y) (omega (arith, loud, more)))
-    (le-leb (max x y) (TWIST * min x y) (omega (arith, even, more, top))))
-    (le-leb (CLEAR * (sum - (x + y))) (min x y) (omega (arith, clear, more, rest))))
-    (ap (λ (b : Bool). b || nat_le ((p - sum) / STEADY) k)
-    (le-leb (SHARE * p) (SHARE_OF * (x + y)) (omega (arith, most, powers, lx, hy))))
-
-or-true : (b c : Bool) → c ≡ true → (b || c) ≡ true
-or-true true c e = refl
-or-true false c e = e
-
--- so they do by their bounds alone, where what lies beside is steady
-abbrev pub surely_clear : ℕ → ℕ → ℕ → ℕ → ℕ → Bool
-surely_clear l h ul uh others =
-    nat_le LEAST_LEVEL (min l h) && nat_le (max ul uh) (TWIST * min l h) && nat_le (CLEAR * others) (min l h)
-
-steady-stands : (k l h ul uh others x y sum p : ℕ) → surely_clear l h ul uh others ≡ true
-    → l ≤ x → x ≤ ul → h ≤ y → y ≤ uh → sum - (x + y) ≤ others → (p - sum) / STEADY ≤ k → stand_out k x y sum p ≡ true
-steady-stands k l h ul uh others x y sum p is lx xu hy yu rest steady =
+stands : (k l h ul uh others x y sum p : ℕ) → surely_clear l h ul uh others ≡ true
+    → l ≤ x → x ≤ ul → h ≤ y → y ≤ uh → sum - (x + y) ≤ others → is_most_or_steady k x y sum p ≡ true
+    → stand_out k x y sum p ≡ true
+stands k l h ul uh others x y sum p is lx xu hy yu rest beside =
     let s1 = and-both _ _ is in
     let s2 = and-both _ _ s1.0 in
     let loud : LEAST_LEVEL ≤ min l h = leb-true _ _ s2.0 in
@@ -113,6 +88,25 @@ steady-stands k l h ul uh others x y sum p is lx xu hy yu rest steady =
     (and-true _ _ (le-leb LEAST_LEVEL (min x y) (omega (arith, loud, more)))
     (le-leb (max x y) (TWIST * min x y) (omega (arith, even, more, top))))
     (le-leb (CLEAR * (sum - (x + y))) (min x y) (omega (arith, clear, more, rest))))
+    beside
+
+surely-stands : (k l h ul uh others power x y sum p : ℕ) → surely l h ul uh others power ≡ true
+    → l ≤ x → x ≤ ul → h ≤ y → y ≤ uh → sum - (x + y) ≤ others → p ≤ power → stand_out k x y sum p ≡ true
+surely-stands k l h ul uh others power x y sum p is lx xu hy yu rest powers =
+    let both = and-both (surely_clear l h ul uh others) (nat_le (SHARE * power) (SHARE_OF * (l + h))) is in
+    let most : SHARE * power ≤ SHARE_OF * (l + h) = leb-true _ _ both.1 in
+    stands k l h ul uh others x y sum p both.0 lx xu hy yu rest
+    (ap (λ (b : Bool). b || nat_le ((p - sum) / STEADY) k)
+    (le-leb (SHARE * p) (SHARE_OF * (x + y)) (omega (arith, most, powers, lx, hy))))
+
+or-true : (b c : Bool) → c ≡ true → (b || c) ≡ true
+or-true true c e = refl
+or-true false c e = e
+
+steady-stands : (k l h ul uh others x y sum p : ℕ) → surely_clear l h ul uh others ≡ true
+    → l ≤ x → x ≤ ul → h ≤ y → y ≤ uh → sum - (x + y) ≤ others → (p - sum) / STEADY ≤ k → stand_out k x y sum p ≡ true
+steady-stands k l h ul uh others x y sum p is lx xu hy yu rest steady =
+    stands k l h ul uh others x y sum p is lx xu hy yu rest
     (or-true (nat_le (SHARE * p) (SHARE_OF * (x + y))) (nat_le ((p - sum) / STEADY) k) (le-leb ((p - sum) / STEADY) k steady))
 
 weak-fails : (k x y sum p : ℕ) → min x y < LEAST_LEVEL → stand_out k x y sum p ≡ false
@@ -310,7 +304,25 @@ sees-none-below k u ys below weak =
     ap (λ (s : Option Sight). label s) (none-shown k (levels_of ys) u below mf_pairs weak) in
     record { pair = none; strong = none-strong (seen k ys) none; low = none-low (seen k ys) none }
 
--- and one whose levels lie between some that surely show a pair sees that pair
+-- and one in which a pair stands out, and surely no other, sees that pair
+sees-pair-standing : (k : ℕ) (l u : Levels) (ys : List ℤ) → IsBelow l (levels_of ys) → IsBelow (levels_of ys) u
+    → (p : Pair) → list_any (λ q. is_same_pair q p) mf_pairs ≡ true → is_pair k (levels_of ys) p ≡ true
+    → list_all (λ q. is_same_pair q p || is_out l u q) mf_pairs ≡ true
+    → LEAST_STRENGTH ≤ level_at l p.low + level_at l p.high → level_at u p.low + level_at u p.high ≤ MOST_STRENGTH
+    → Sees (Some p) (seen k ys)
+sees-pair-standing k l u ys above below p known stand others enough least =
+    let v = levels_of ys in
+    let low = at-below l v above p.low in
+    let high = at-below l v above p.high in
+    let low-most = at-below v u below p.low in
+    let high-most = at-below v u below p.high in
+    let pair : label (seen k ys) ≡ Some p =
+    one-shown k v l u p above below stand mf_pairs (rests-below l v above) others known in
+    let strong : LEAST_STRENGTH ≤ level_at v p.low + level_at v p.high = omega (arith, enough, low, high) in
+    let most : level_at v p.low + level_at v p.high ≤ MOST_STRENGTH = omega (arith, least, low-most, high-most) in
+    record { pair = pair; strong = first-strong k v p strong mf_pairs pair; low = first-low k v p most mf_pairs pair }
+
+-- as one whose levels lie between some that surely show the pair
 pub sees-pair-between : (k : ℕ) (l u : Levels) (ys : List ℤ) → IsBelow l (levels_of ys) → IsBelow (levels_of ys) u
     → (p : Pair) → list_any (λ q. is_same_pair q p) mf_pairs ≡ true → shows l u p ≡ true → Sees (Some p) (seen k ys)
 sees-pair-between k l u ys above below p known is =
@@ -319,21 +331,12 @@ sees-pair-between k l u ys above below p known is =
     let parts = and-both _ _ bounds.0 in
     let both = and-both (surely (level_at l p.low) (level_at l p.high) (level_at u p.low) (level_at u p.high) (rest_of u p) u.power)
     (list_all (λ q. is_same_pair q p || is_out l u q) mf_pairs) parts.0 in
-    let low = at-below l v above p.low in
-    let high = at-below l v above p.high in
-    let low-most = at-below v u below p.low in
-    let high-most = at-below v u below p.high in
-    let stands : is_pair k v p ≡ true =
+    let stand : is_pair k v p ≡ true =
     surely-stands k (level_at l p.low) (level_at l p.high) (level_at u p.low) (level_at u p.high) (rest_of u p) u.power
-    (level_at v p.low) (level_at v p.high) (all_levels v) v.power both.0 low low-most high high-most
+    (level_at v p.low) (level_at v p.high) (all_levels v) v.power both.0 (at-below l v above p.low)
+    (at-below v u below p.low) (at-below l v above p.high) (at-below v u below p.high)
     (at-pair (IsRestBelow v u) p mf_pairs (rests-below v u below) known) below.all in
-    let pair : label (seen k ys) ≡ Some p =
-    one-shown k v l u p above below stands mf_pairs (rests-below l v above) both.1 known in
-    let enough : LEAST_STRENGTH ≤ level_at l p.low + level_at l p.high = leb-true _ _ parts.1 in
-    let strong : LEAST_STRENGTH ≤ level_at v p.low + level_at v p.high = omega (arith, enough, low, high) in
-    let least : level_at u p.low + level_at u p.high ≤ MOST_STRENGTH = leb-true _ _ bounds.1 in
-    let most : level_at v p.low + level_at v p.high ≤ MOST_STRENGTH = omega (arith, least, low-most, high-most) in
-    record { pair = pair; strong = first-strong k v p strong mf_pairs pair; low = first-low k v p most mf_pairs pair }
+    sees-pair-standing k l u ys above below p known stand both.1 (leb-true _ _ parts.1) (leb-true _ _ bounds.1)
 
 -- a pair that shows by its levels, whatever the power is
 abbrev pub shows_clear : Levels → Levels → Pair → Bool
@@ -353,21 +356,12 @@ sees-pair-steady k l u ys above below steady p known is =
     let parts = and-both _ _ bounds.0 in
     let both = and-both (surely_clear (level_at l p.low) (level_at l p.high) (level_at u p.low) (level_at u p.high) (rest_of u p))
     (list_all (λ q. is_same_pair q p || is_out l u q) mf_pairs) parts.0 in
-    let low = at-below l v above p.low in
-    let high = at-below l v above p.high in
-    let low-most = at-below v u below p.low in
-    let high-most = at-below v u below p.high in
-    let stands : is_pair k v p ≡ true =
+    let stand : is_pair k v p ≡ true =
     steady-stands k (level_at l p.low) (level_at l p.high) (level_at u p.low) (level_at u p.high) (rest_of u p)
-    (level_at v p.low) (level_at v p.high) (all_levels v) v.power both.0 low low-most high high-most
+    (level_at v p.low) (level_at v p.high) (all_levels v) v.power both.0 (at-below l v above p.low)
+    (at-below v u below p.low) (at-below l v above p.high) (at-below v u below p.high)
     (at-pair (IsRestBelow v u) p mf_pairs (rests-below v u below) known) steady in
-    let pair : label (seen k ys) ≡ Some p =
-    one-shown k v l u p above below stands mf_pairs (rests-below l v above) both.1 known in
-    let enough : LEAST_STRENGTH ≤ level_at l p.low + level_at l p.high = leb-true _ _ parts.1 in
-    let strong : LEAST_STRENGTH ≤ level_at v p.low + level_at v p.high = omega (arith, enough, low, high) in
-    let least : level_at u p.low + level_at u p.high ≤ MOST_STRENGTH = leb-true _ _ bounds.1 in
-    let most : level_at v p.low + level_at v p.high ≤ MOST_STRENGTH = omega (arith, least, low-most, high-most) in
-    record { pair = pair; strong = first-strong k v p strong mf_pairs pair; low = first-low k v p most mf_pairs pair }
+    sees-pair-standing k l u ys above below p known stand both.1 (leb-true _ _ parts.1) (leb-true _ _ bounds.1)
 
 module _ (k n : ℕ) (clean ys : List ℤ) (long : length clean ≡ 80) (near : IsNear n clean ys) where
   -- so it is of a window that is near a clean one

@@ -19,7 +19,7 @@ use Rattle.xb_ear.proofs.MixedKeys.{beside_is_borne}
 use Rattle.xb_ear.proofs.Near.{far_squares, near-correlated, near-drop, near-length, near-squares, near-take, reach}
 use Rattle.xb_ear.proofs.Places.{cosine_of-turns, sine_of-turns}
 use Rattle.xb_ear.proofs.Scaled.{scaled, scaled-drop, scaled-take, size-scaled}
-use Rattle.xb_ear.proofs.Segments.{drops}
+use Rattle.xb_sound.proofs.ClearKeys.{drops}
 use Rattle.xb_ear.proofs.Shown.{turned}
 use Rattle.xb_ear.proofs.Standing.{and-both}
 use Rattle.xb_ear.proofs.Products.{correlated-louder, correlated-times, nothing-between, nothing-times, squares-times, sum-is, times, times-is}

@@ -11,8 +11,9 @@ use Rattle.xb_ear.specs.Levels.{levels_of}
 use Rattle.xb_ear.specs.Steady.{beside, lessened}
 use Rattle.xb_ear.specs.Ears.{heard, hearing_after, held_before, least_before, recent_of, sights, windows_in}
 use Rattle.xb_ear.specs.Receivers.{HasReceived, Receiving, keys_of_sound}
-use Rattle.xb_ear.specs.Tails.{strength, without_tail}
-use Rattle.xb_ear.proofs.Windows.{held-more, held-same, image_from-append, least-more, least-same, recent-more, recent-same, sights-more, sights-same}
+use Rattle.xb_ear.specs.Tails.{without_tail}
+use Rattle.xb_model.proofs.Images.{image_from-append}
+use Rattle.xb_ear.proofs.Windows.{held-more, held-same, least-more, least-same, recent-more, recent-same, sights-more, sights-same}
 
 -- how many samples wait
 waits : (samples : List ℤ) → 20 * windows_in (length samples) ≤ length samples
@@ -34,13 +35,13 @@ taken-same old new samples keys x taken few recent held least hearing =
       given = append-nil keys ∙ taken.given ∙ sym (ap (λ (zs : List (Option Sight)). image_from hearer hearer.start zs) same);
     }
 
--- what a window sees that begins with some samples, after windows that held so much, with so little beside
-abbrev pub sees_next : List ℕ → ℕ → List ℤ → ℤ → Option Sight
+-- what a window sees that begins with some samples, after windows in which such pairs stood out, with so little beside
+abbrev pub sees_next : List (Option Sight) → ℕ → List ℤ → ℤ → Option Sight
 sees_next held least recent x = without_tail held (seen least (recent ++ x ∷ []))
 
 pub taken-more : (old new : Receiving) (samples : List ℤ) (keys given : List Heard) (x : ℤ) → HasReceived old samples keys
     → length old.recent + 1 ≡ 80 → new.recent ≡ drop 20 (old.recent ++ x ∷ [])
-    → new.held ≡ drop 1 old.held ++ strength (seen old.least (old.recent ++ x ∷ [])) ∷ []
+    → new.held ≡ drop 1 old.held ++ seen old.least (old.recent ++ x ∷ []) ∷ []
     → new.least ≡ lessened old.least (beside (levels_of (old.recent ++ x ∷ [])))
     → new.hearing ≡ hearer.next old.hearing (sees_next old.held old.least old.recent x)
     → given ≡ hearer.outs old.hearing (sees_next old.held old.least old.recent x)
@@ -50,11 +51,11 @@ taken-more old new samples keys given x taken all recent held least hearing give
     let full : length samples + 1 ≡ 20 * windows_in (length samples) + 80 =
     omega (arith, n, waits samples, length-drop (20 * windows_in (length samples)) samples) in
     let before : Hearing = hearing_after samples in
-    let held_so_far : List ℕ = held_before samples (windows_in (length samples)) in
+    let held_so_far : List (Option Sight) = held_before samples (windows_in (length samples)) in
     let least_so_far : ℕ = least_before samples (windows_in (length samples)) in
     let sight : Option Sight = sees_next held_so_far least_so_far (recent_of samples) x in
     let same : sees_next old.held old.least old.recent x ≡ sight =
-    ap (λ (hs : List ℕ). sees_next hs old.least old.recent x) taken.held
+    ap (λ (hs : List (Option Sight)). sees_next hs old.least old.recent x) taken.held
     ∙ ap (λ (l : ℕ). sees_next held_so_far l old.recent x) taken.least
     ∙ ap (λ (zs : List ℤ). sees_next held_so_far least_so_far zs x) taken.recent in
     let more = sights-more samples x full in
@@ -62,9 +63,9 @@ taken-more old new samples keys given x taken all recent held least hearing give
       recent = recent ∙ ap (λ (zs : List ℤ). drop 20 (zs ++ x ∷ [])) taken.recent ∙ sym (recent-more samples x full);
       held =
           held
-          ∙ ap (λ (hs : List ℕ). drop 1 hs ++ strength (seen old.least (old.recent ++ x ∷ [])) ∷ []) taken.held
-          ∙ ap (λ (l : ℕ). drop 1 held_so_far ++ strength (seen l (old.recent ++ x ∷ [])) ∷ []) taken.least
-          ∙ ap (λ (zs : List ℤ). drop 1 held_so_far ++ strength (seen least_so_far (zs ++ x ∷ [])) ∷ []) taken.recent
+          ∙ ap (λ (hs : List (Option Sight)). drop 1 hs ++ seen old.least (old.recent ++ x ∷ []) ∷ []) taken.held
+          ∙ ap (λ (l : ℕ). drop 1 held_so_far ++ seen l (old.recent ++ x ∷ []) ∷ []) taken.least
+          ∙ ap (λ (zs : List ℤ). drop 1 held_so_far ++ seen least_so_far (zs ++ x ∷ []) ∷ []) taken.recent
           ∙ sym (held-more samples x full);
       least =
           least

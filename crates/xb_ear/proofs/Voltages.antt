@@ -1,5 +1,5 @@
 -- A steady voltage changes nothing: no level of a window, and no power but for the mean.
-use Rattle.std.proofs.Common.{◌≡◌, ◌∙◌, ℕ, zero, suc, ◌+◌, ◌-◌, ◌*◌, ◌/◌, ◌^◌, ◌<◌, ◌≤◌, Bool, true, false, List, [], ◌∷◌, ◌++◌, map, take, drop, fold, length, sym, ap, subst, arith, refl, ℤ, pos, negsuc, ◌+ℤ◌, ◌*ℤ◌, unsigned_abs, Option, length-drop, length-take}
+use Rattle.std.proofs.Common.{◌≡◌, ◌∙◌, ℕ, zero, suc, ◌+◌, ◌-◌, ◌*◌, ◌/◌, ◌^◌, ◌<◌, ◌≤◌, Bool, true, false, List, [], ◌∷◌, ◌++◌, map, take, drop, fold, length, sym, ap, subst, arith, refl, ℤ, pos, negsuc, ◌+ℤ◌, ◌*ℤ◌, unsigned_abs, Option, length-drop, length-take, None}
 use lib.IntN.{*ℤ_comm, negsuc-*ℤ-negsuc, pos-*ℤ-pos, suc_ℤ-*ℤ}
 use borrow.Author.Differences.{down, up}
 use Rattle.std.specs.Prelude.{if◌then◌else◌, nat_lt}
@@ -12,13 +12,13 @@ use Rattle.xb_sound.specs.Sines.{sine_table}
 use Rattle.xb_ear.specs.declared.levels.Levels.{Levels}
 use Rattle.xb_ear.specs.declared.sight.Sight.{Sight}
 use Rattle.xb_ear.specs.declared.hearing.Heard.{Heard}
-use Rattle.xb_ear.specs.declared.tails.TheConstants.{TAIL_WINDOWS}
+use Rattle.xb_ear.specs.declared.echo_tails.TheConstants.{TAIL_WINDOWS}
 use Rattle.xb_ear.specs.Ears.{held, held_before, least_before, seen_at, sight_at, sights, window, windows_in}
 use Rattle.xb_ear.specs.Hearings.{hearer, listed}
 use Rattle.xb_ear.specs.Levels.{correlated, cosine_of, level, levels_of, part, power, sine_of, squares, total}
 use Rattle.xb_ear.specs.Pairs.{first_pair, mf_pairs, seen}
 use Rattle.xb_ear.specs.Steady.{beside, lessened}
-use Rattle.xb_ear.specs.Tails.{strength, without_tail}
+use Rattle.xb_ear.specs.Tails.{without_tail}
 use Rattle.xb_ear.specs.Voltages.{VoltagesChangeNothing}
 use Rattle.xb_ear.proofs.Windows.{map-agrees, window-fits}
 
@@ -210,16 +210,15 @@ module _ (c : ℤ) (samples : List ℤ) where
   held-raised n below = by (nat_lt n TAIL_WINDOWS) refl
     where
       by : (b : Bool) → nat_lt n TAIL_WINDOWS ≡ b
-          → (if b then 0 else strength (sight_at all (n - TAIL_WINDOWS)))
-          ≡ (if b then 0 else strength (sight_at samples (n - TAIL_WINDOWS)))
+          → (if b then None else sight_at all (n - TAIL_WINDOWS)) ≡ (if b then None else sight_at samples (n - TAIL_WINDOWS))
       by true e = refl
       by false e =
           let past : 64 ≤ n = ltb-false _ _ e in
-          ap (λ (s : Option Sight). strength s) (sight-raised (n - TAIL_WINDOWS) (omega (arith, past, below)))
+          sight-raised (n - TAIL_WINDOWS) (omega (arith, past, below))
 
   seen-raised : (w : ℕ) → w < windows_in (length samples) → seen_at all w ≡ seen_at samples w
   seen-raised w below =
-      ap (λ (before : List ℕ). without_tail before (sight_at all w))
+      ap (λ (before : List (Option Sight)). without_tail before (sight_at all w))
       (map-agrees (held all) (held samples) w 64 (λ n less. held-raised n (omega (arith, less, below))))
       ∙ ap (λ (s : Option Sight). without_tail (held_before samples w) s) (sight-raised w below)
 

@@ -29,7 +29,8 @@ use Rattle.xb_ear.proofs.Runs.{stays}
 use Rattle.xb_ear.proofs.Segments.{AreMatched, Within, all-in-range, between, matched-within, part_of, range-split, sees, sees-part}
 use Rattle.xb_ear.proofs.Shown.{still}
 use Rattle.xb_ear.proofs.Steps.{known}
-use Rattle.xb_ear.proofs.Windows.{image_from-append, sights-early}
+use Rattle.xb_model.proofs.Images.{image_from-append}
+use Rattle.xb_ear.proofs.Windows.{sights-early}
 
 abbrev keys_with_pair : Pair → List Key
 keys_with_pair p = keys_with (frequencies_of p)

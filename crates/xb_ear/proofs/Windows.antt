@@ -1,26 +1,17 @@
 -- The windows of samples, as samples come.
-use Rattle.std.proofs.Common.{◌≡◌, ◌∙◌, ℕ, zero, suc, ◌+◌, ◌-◌, ◌*◌, ◌<◌, ◌≤◌, Bool, true, false, List, [], ◌∷◌, ◌++◌, map, take, drop, fold, length, sym, ap, arith, refl, ℤ, append_assoc, length-drop, length-append, Option}
+use Rattle.std.proofs.Common.{◌≡◌, ◌∙◌, ℕ, zero, suc, ◌+◌, ◌-◌, ◌*◌, ◌<◌, ◌≤◌, Bool, true, false, List, [], ◌∷◌, ◌++◌, map, take, drop, length, sym, ap, arith, refl, ℤ, length-drop, length-append, Option, None}
 use Rattle.std.specs.Prelude.{if◌then◌else◌, nat_lt}
 use Rattle.std.specs.List.{range_with_len}
 use Rattle.std.proofs.lemmas.Bool.{le-ltb, ltb-false}
 use Rattle.std.proofs.lemmas.List.{drop-append-le, take-append-le, take_all, drop-drop}
 use Rattle.std.proofs.lemmas.List.FromFn.{map-range_with_len_more}
-use Rattle.xb_model.specs.Image.{Machine, image_from}
 use Rattle.xb_ear.specs.declared.sight.Sight.{Sight}
-use Rattle.xb_ear.specs.declared.tails.TheConstants.{TAIL_WINDOWS}
+use Rattle.xb_ear.specs.declared.echo_tails.TheConstants.{TAIL_WINDOWS}
 use Rattle.xb_ear.specs.Pairs.{seen}
 use Rattle.xb_ear.specs.Levels.{levels_of}
 use Rattle.xb_ear.specs.Steady.{beside, lessened}
 use Rattle.xb_ear.specs.Ears.{held, held_before, least_before, recent_of, seen_at, sight_at, sights, window, windows_in}
-use Rattle.xb_ear.specs.Tails.{strength, without_tail}
-
--- what is sent for one item more, and for many
-pub image_from-append : {I O S : Type 0} (m : Machine I O S) (s : S) (xs ys : List I)
-    → image_from m s (xs ++ ys) ≡ image_from m s xs ++ image_from m (fold m.next s xs) ys
-image_from-append m s [] ys = refl
-image_from-append m s (x ∷ xs) ys =
-    ap (λ rest. m.outs s x ++ rest) (image_from-append m (m.next s x) xs ys)
-    ∙ sym (append_assoc (m.outs s x) (image_from m (m.next s x) xs) (image_from m (fold m.next (m.next s x) xs) ys))
+use Rattle.xb_ear.specs.Tails.{without_tail}
 
 -- two functions that agree on a range
 pub map-agrees : {A : Type 0} (f g : ℕ → A) (a n : ℕ) → ((k : ℕ) → k < a + n → f k ≡ g k)
@@ -60,12 +51,11 @@ held-early : (xs ys : List ℤ) (n : ℕ) → n < windows_in (length xs) + 64 �
 held-early xs ys n below = by (nat_lt n TAIL_WINDOWS) refl
   where
     by : (b : Bool) → nat_lt n TAIL_WINDOWS ≡ b
-        → (if b then 0 else strength (sight_at (xs ++ ys) (n - TAIL_WINDOWS)))
-        ≡ (if b then 0 else strength (sight_at xs (n - TAIL_WINDOWS)))
+        → (if b then None else sight_at (xs ++ ys) (n - TAIL_WINDOWS)) ≡ (if b then None else sight_at xs (n - TAIL_WINDOWS))
     by true e = refl
     by false e =
         let past : 64 ≤ n = ltb-false _ _ e in
-        ap (λ (s : Option Sight). strength s) (sight-early xs ys (n - TAIL_WINDOWS) (omega (arith, past, below)))
+        sight-early xs ys (n - TAIL_WINDOWS) (omega (arith, past, below))
 
 held-before-early : (xs ys : List ℤ) (w : ℕ) → w ≤ windows_in (length xs)
     → held_before (xs ++ ys) w ≡ held_before xs w
@@ -74,7 +64,7 @@ held-before-early xs ys w most =
 
 seen-early : (xs ys : List ℤ) (w : ℕ) → w < windows_in (length xs) → seen_at (xs ++ ys) w ≡ seen_at xs w
 seen-early xs ys w below =
-    ap (λ (before : List ℕ). without_tail before (sight_at (xs ++ ys) w)) (held-before-early xs ys w (omega (arith, below)))
+    ap (λ (before : List (Option Sight)). without_tail before (sight_at (xs ++ ys) w)) (held-before-early xs ys w (omega (arith, below)))
     ∙ ap (λ (s : Option Sight). without_tail (held_before xs w) s) (sight-early xs ys w below)
 
 -- the windows of the first samples
@@ -82,10 +72,6 @@ pub sights-early : (xs ys : List ℤ) → map (seen_at (xs ++ ys)) (range_with_l
 sights-early xs ys =
     map-agrees (seen_at (xs ++ ys)) (seen_at xs) 0 (windows_in (length xs))
     (λ w below. seen-early xs ys w (omega (arith, below)))
-
--- how many samples wait for the next window
-pub waiting : (xs : List ℤ) (r : ℕ) → length (recent_of xs) ≡ r → r < 80 → 20 * windows_in (length xs) ≤ length xs
-waiting xs r is below = omega arith
 
 pub count-same : (n : ℕ) → n + 1 < 20 * windows_in n + 80 → windows_in (n + 1) ≡ windows_in n
 count-same n few = omega arith
@@ -163,7 +149,7 @@ sights-more xs x full =
     let w = windows_in (length xs) in
     let f = seen_at (xs ++ x ∷ []) in
     let this : f w ≡ without_tail (held_before xs w) (seen (least_before xs w) (recent_of xs ++ x ∷ [])) =
-    ap (λ (before : List ℕ). without_tail before (sight_at (xs ++ x ∷ []) w))
+    ap (λ (before : List (Option Sight)). without_tail before (sight_at (xs ++ x ∷ []) w))
     (held-before-early xs (x ∷ []) w (omega arith))
     ∙ ap (λ (s : Option Sight). without_tail (held_before xs w) s) (sight-more xs x full) in
     ap (λ (n : ℕ). map f (range_with_len 0 n)) (ap (λ (n : ℕ). windows_in n) (longer xs x) ∙ count-more (length xs) full)
@@ -172,31 +158,29 @@ sights-more xs x full =
     ∙ ap (λ (s : Option Sight). sights xs ++ s ∷ []) this
 
 -- a range that begins one later
-range-moved : (f : ℕ → ℕ) (a n : ℕ)
+range-moved : (f : ℕ → Option Sight) (a n : ℕ)
     → map f (range_with_len (a + 1) (suc n)) ≡ drop 1 (map f (range_with_len a (suc n))) ++ f (a + suc n) ∷ []
 range-moved f a n =
     let one : suc n ≡ n + 1 = omega arith in
     ap (λ (k : ℕ). map f (range_with_len (a + 1) k)) one ∙ map-range_with_len_more f (a + 1) n (a + suc n) (omega arith)
 
-held-last : (xs : List ℤ) (w : ℕ) → held xs (w + 64) ≡ strength (sight_at xs w)
+pub held-last : (xs : List ℤ) (w : ℕ) → held xs (w + 64) ≡ sight_at xs w
 held-last xs w =
     let late : nat_lt (w + 64) TAIL_WINDOWS ≡ false = le-ltb (w + 64) TAIL_WINDOWS (omega arith) in
     let back : w + 64 - TAIL_WINDOWS ≡ w = omega arith in
-    ap (λ (b : Bool). if b then 0 else strength (sight_at xs (w + 64 - TAIL_WINDOWS))) late
-    ∙ ap (λ (n : ℕ). strength (sight_at xs n)) back
+    ap (λ (b : Bool). if b then None else sight_at xs (w + 64 - TAIL_WINDOWS)) late ∙ ap (λ (n : ℕ). sight_at xs n) back
 
 pub held-more : (xs : List ℤ) (x : ℤ) → length xs + 1 ≡ 20 * windows_in (length xs) + 80
     → held_before (xs ++ x ∷ []) (windows_in (length (xs ++ x ∷ [])))
     ≡ drop 1 (held_before xs (windows_in (length xs)))
-    ++ strength (seen (least_before xs (windows_in (length xs))) (recent_of xs ++ x ∷ [])) ∷ []
+    ++ seen (least_before xs (windows_in (length xs))) (recent_of xs ++ x ∷ []) ∷ []
 held-more xs x full =
     let w = windows_in (length xs) in
     let all = xs ++ x ∷ [] in
     ap (λ (n : ℕ). held_before all n) (ap (λ (n : ℕ). windows_in n) (longer xs x) ∙ count-more (length xs) full)
     ∙ range-moved (held all) w 63
-    ∙ ap (λ (before : List ℕ). drop 1 before ++ held all (w + 64) ∷ []) (held-before-early xs (x ∷ []) w (omega arith))
-    ∙ ap (λ (h : ℕ). drop 1 (held_before xs w) ++ h ∷ [])
-    (held-last all w ∙ ap (λ (s : Option Sight). strength s) (sight-more xs x full))
+    ∙ ap (λ (before : List (Option Sight)). drop 1 before ++ held all (w + 64) ∷ []) (held-before-early xs (x ∷ []) w (omega arith))
+    ∙ ap (λ (s : Option Sight). drop 1 (held_before xs w) ++ s ∷ []) (held-last all w ∙ sight-more xs x full)
 
 pub recent-more : (xs : List ℤ) (x : ℤ) → length xs + 1 ≡ 20 * windows_in (length xs) + 80
     → recent_of (xs ++ x ∷ []) ≡ drop 20 (recent_of xs ++ x ∷ [])

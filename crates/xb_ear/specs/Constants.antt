@@ -2,8 +2,8 @@
 use Rattle.std.specs.Prelude.{◌≡◌}
 use Rattle.xb_ear.specs.declared.hearing.TheConstants.{GAP_WINDOWS, KEY_WINDOWS, KP_WINDOWS, PART_WINDOWS}
 use Rattle.xb_ear.specs.declared.sight.TheConstants.{CLEAR, LEAST_LEVEL, SHARE, SHARE_OF, STEADY, TWIST}
-use Rattle.xb_ear.specs.declared.steady.TheConstants.{STEADY_WINDOWS}
-use Rattle.xb_ear.specs.declared.tails.TheConstants.{TAIL_ROW, TAIL_WEAKER, TAIL_WINDOWS}
+use Rattle.xb_ear.specs.declared.hum.TheConstants.{STEADY_WINDOWS}
+use Rattle.xb_ear.specs.declared.echo_tails.TheConstants.{TAIL_OTHER, TAIL_ROW, TAIL_WEAKER, TAIL_WINDOWS}
 
 -- a definition that cites a constant means this number
 pub record AreConstants : Type 0 where
@@ -17,7 +17,8 @@ pub record AreConstants : Type 0 where
   pub share : SHARE ≡ 3
   pub share_of : SHARE_OF ≡ 5
   pub steady : STEADY ≡ 20
-  pub steady_windows : STEADY_WINDOWS ≡ 1024
+  pub steady_windows : STEADY_WINDOWS ≡ 32768
   pub tail_windows : TAIL_WINDOWS ≡ 64
   pub tail_row : TAIL_ROW ≡ 6
   pub tail_weaker : TAIL_WEAKER ≡ 3
+  pub tail_other : TAIL_OTHER ≡ 2

@@ -1,16 +1,16 @@
 -- What is heard of samples.
-use Rattle.std.specs.Prelude.{ℕ, zero, suc, ◌-◌, ◌*◌, ◌/◌, if◌then◌else◌, nat_lt, List, map, take, drop, length, fold, Option, ℤ}
+use Rattle.std.specs.Prelude.{ℕ, zero, suc, ◌-◌, ◌*◌, ◌/◌, if◌then◌else◌, nat_lt, List, map, take, drop, length, fold, Option, None, ℤ}
 use Rattle.std.specs.List.{range_with_len}
 use Rattle.xb_model.specs.Image.{image_on}
 use Rattle.xb_ear.specs.declared.sight.Sight.{Sight}
 use Rattle.xb_ear.specs.declared.hearing.Heard.{Heard}
 use Rattle.xb_ear.specs.declared.hearing.Hearing.{Hearing}
-use Rattle.xb_ear.specs.declared.tails.TheConstants.{TAIL_WINDOWS}
+use Rattle.xb_ear.specs.declared.echo_tails.TheConstants.{TAIL_WINDOWS}
 use Rattle.xb_ear.specs.Levels.{levels_of}
 use Rattle.xb_ear.specs.Pairs.{seen}
 use Rattle.xb_ear.specs.Steady.{beside, lessened}
 use Rattle.xb_ear.specs.Hearings.{hearer}
-use Rattle.xb_ear.specs.Tails.{strength, without_tail}
+use Rattle.xb_ear.specs.Tails.{without_tail}
 
 -- a window of 80 samples begins with each 20th sample
 abbrev pub window : List ℤ → ℕ → List ℤ
@@ -29,12 +29,12 @@ least_before samples (suc w) = lessened (least_before samples w) (beside (levels
 abbrev pub sight_at : List ℤ → ℕ → Option Sight
 sight_at samples w = seen (least_before samples w) (window samples w)
 
--- what windows held, where 64 silent ones stand before the first
-abbrev pub held : List ℤ → ℕ → ℕ
-held samples n = if nat_lt n TAIL_WINDOWS then 0 else strength (sight_at samples (n - TAIL_WINDOWS))
+-- what stands out in windows, where 64 silent ones stand before the first
+abbrev pub held : List ℤ → ℕ → Option Sight
+held samples n = if nat_lt n TAIL_WINDOWS then None else sight_at samples (n - TAIL_WINDOWS)
 
--- what the 64 windows before a window held: 160 ms
-abbrev pub held_before : List ℤ → ℕ → List ℕ
+-- what stood out in the 64 windows before a window: 160 ms
+abbrev pub held_before : List ℤ → ℕ → List (Option Sight)
 held_before samples w = map (held samples) (range_with_len w TAIL_WINDOWS)
 
 -- what a window sees, but for tails

@@ -1,5 +1,7 @@
 -- How strong each MF frequency is in a window of samples.
 use Rattle.std.specs.Prelude.{ℕ, ◌+◌, ◌-◌, ◌*◌, ◌/◌, ◌%◌, ◌^◌, ◌<◌, List, [], ◌∷◌, ℤ, pos, ◌+ℤ◌, ◌*ℤ◌, unsigned_abs}
+use Rattle.xb_ear.specs.declared.correlation.Wave.{Wave}
+use Rattle.xb_ear.specs.declared.correlation.Wave.TheVariants.{Sine, Cosine}
 use Rattle.xb_ear.specs.declared.levels.Levels.{Levels}
 use Rattle.xb_sound.specs.Sines.{sine_at, sine_sample}
 
@@ -9,6 +11,10 @@ sine_of hz n = sine_sample hz n
 
 abbrev pub cosine_of : ℕ → ℕ → ℤ
 cosine_of hz n = sine_at ((hz * n / 100 + 20) % 80)
+
+abbrev pub wave_of : Wave → ℕ → ℕ → ℤ
+wave_of Sine hz = sine_of hz
+wave_of Cosine hz = cosine_of hz
 
 -- the sum of the products of samples with a wave, from its sample n on
 unfoldable pub correlated : (ℕ → ℤ) → ℕ → List ℤ → ℤ

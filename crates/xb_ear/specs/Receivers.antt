@@ -1,7 +1,8 @@
 -- What a receiver gives: what is heard, and at the end of the samples the key that sounds then.
-use Rattle.std.specs.Prelude.{◌≡◌, ℕ, List, length, ◌++◌, ℤ}
+use Rattle.std.specs.Prelude.{◌≡◌, ℕ, List, length, ◌++◌, Option, ℤ}
 use Rattle.xb_ear.specs.declared.hearing.Heard.{Heard}
 use Rattle.xb_ear.specs.declared.hearing.Hearing.{Hearing}
+use Rattle.xb_ear.specs.declared.sight.Sight.{Sight}
 use Rattle.xb_ear.specs.Ears.{heard, hearing_after, held_before, least_before, recent_of, windows_in}
 use Rattle.xb_ear.specs.Hearings.{listed}
 
@@ -9,11 +10,11 @@ use Rattle.xb_ear.specs.Hearings.{listed}
 abbrev pub keys_of_sound : List ℤ → List Heard
 keys_of_sound samples = heard samples ++ listed (hearing_after samples).sounding
 
--- what a receiver knows: the samples that the next window begins with, what the windows before that one held, the least
+-- what a receiver knows: the samples that the next window begins with, what stood out in the windows before that one, the least
 -- that lay beside of late, and what the windows so far make of it
 pub record Receiving : Type 0 where
   pub recent : List ℤ
-  pub held : List ℕ
+  pub held : List (Option Sight)
   pub least : ℕ
   pub hearing : Hearing
 

@@ -1,9 +1,40 @@
 // Sums over a window.
 ghost use Rattle.std.specs.Prelude.{◌≡◌, ◌≤◌, ◌*◌, ◌*ℤ◌, length, unsigned_abs};
-ghost use Rattle.xb_ear.specs.Levels.{correlated, sine_of, cosine_of, squares, total};
+ghost use Rattle.xb_ear.specs.Levels.{correlated, cosine_of, squares, total, wave_of};
 
-use crate::waves::cosine_sample;
-use xb_sound::sine_sample;
+use xb_sound::{sine_at, sine_sample};
+
+// How many places of the table a cosine is ahead of a sine.
+const QUARTER: u64 = 20;
+
+// A wave that a window is compared with.
+#[derive(Clone, Copy)]
+pub(crate) enum Wave {
+    // Which begins at 0.
+    Sine,
+    // Which is a quarter of a period ahead of it.
+    Cosine,
+}
+
+// Sample n of a frequency in Hz that is a quarter of a period ahead.
+fn cosine_sample(hz: u16, n: u32) -> i16
+    ensures value { result ≡ cosine_of hz n }
+    ensures bound { unsigned_abs result ≤ 10000 }
+{
+    let place = (u64::from(hz) * u64::from(n) / 100 + QUARTER) % 80;
+    sine_at(place as usize)
+}
+
+// Sample n of a wave of a frequency in Hz.
+fn wave_sample(wave: Wave, hz: u16, n: u32) -> i16
+    ensures value { result ≡ wave_of wave hz n }
+    ensures bound { unsigned_abs result ≤ 10000 }
+{
+    match wave {
+        Wave::Sine => sine_sample(hz, n),
+        Wave::Cosine => cosine_sample(hz, n),
+    }
+}
 
 // A sample times one of a wave.
 fn product(x: i16, y: i16) -> i64
@@ -14,31 +45,16 @@ fn product(x: i16, y: i16) -> i64
     i64::from(x) * i64::from(y)
 }
 
-// The sum of the products of a window with a sine.
-pub(crate) fn with_sine(window: &[i16], hz: u16) -> i64
+// The sum of the products of a window with a wave of a frequency in Hz.
+pub(crate) fn with_wave(window: &[i16], wave: Wave, hz: u16) -> i64
     requires { length window.now ≤ 80 }
-    ensures value { result ≡ correlated (sine_of hz) 0 window.now }
+    ensures value { result ≡ correlated (wave_of wave hz) 0 window.now }
     ensures bound { unsigned_abs result ≤ 327680000 * length window.now }
 {
     let mut sum = 0i64;
     let mut n = 0u32;
     for x in window {
-        sum += product(*x, sine_sample(hz, n));
-        n += 1;
-    }
-    sum
-}
-
-// The sum of the products of a window with a cosine.
-pub(crate) fn with_cosine(window: &[i16], hz: u16) -> i64
-    requires { length window.now ≤ 80 }
-    ensures value { result ≡ correlated (cosine_of hz) 0 window.now }
-    ensures bound { unsigned_abs result ≤ 327680000 * length window.now }
-{
-    let mut sum = 0i64;
-    let mut n = 0u32;
-    for x in window {
-        sum += product(*x, cosine_sample(hz, n));
+        sum += product(*x, wave_sample(wave, hz, n));
         n += 1;
     }
     sum

@@ -1,11 +1,13 @@
 //! A receiver of MF tones: it takes samples one by one, and gives each key that sounded in them as it ends.
-//! It takes no memory but its own 80 samples and 65 levels, and counts in whole numbers alone.
+//! It takes no memory but its own 80 samples and what 64 windows saw, and counts in whole numbers alone.
 //!
 //! - `Receiver::take`: after each sample the receiver has given exactly the keys of `heard` of all samples so
 //!   far, whatever they are. With what `finish` gives, they are `keys_of_sound` of the samples.
 //!   `Receiver::new` has taken none. `parts`: what one knows; `of_parts`: one that goes on from there.
 //! - `seen` is the pair that stands out in a window, of all or of all but a steady hum. It counts except
-//!   where it is the tail that a room or an echo leaves of a key.
+//!   where it is the tail that a room or an echo leaves of a key. `laws::unequal_keys_are_heard`: keys of which none
+//!   is weaker than by 4.8 dB, or 7.8 beside another pair, are no tails; `echoes_are_no_keys`: what is weaker for
+//!   longer than an edge is none. `tails_are_as_worked` has cases.
 //! - `laws::keys_are_long_runs`: what is heard are the runs of windows that see the same and are long enough,
 //!   joined across holes too. `holes_change_nothing`: fewer than 8 windows in a row that see none change
 //!   nothing of a key that 5 windows see before them and 5 after. `hears_so_far`: what was given is not taken
@@ -23,25 +25,22 @@
 //!   heard.
 //!
 //! Not said: what is heard of tones of other amplitudes, twisted or detuned, of more noise, hum or 2,600 Hz
-//! beside, in a room or with an echo, and what windows across the edges of a hole see; that is measured.
+//! beside, what windows see in a room or with an echo, and across the edges of a hole; that is measured.
 #![tactic(auto)]
 
 mod correlation;
+mod ear_parts;
+mod echo_tails;
 mod hearing;
+mod hum;
 pub mod laws;
 mod levels;
-mod plain;
 mod receiver;
 mod sight;
-mod steady;
-mod tails;
-mod waves;
 
 pub use correlation::squares;
-pub use hearing::{GAP_WINDOWS, Heard, Hearing, KEY_WINDOWS, KP_WINDOWS, PART_WINDOWS};
-pub use levels::{Levels, levels_of};
-pub use plain::PlainEar;
+pub use ear_parts::PlainEar;
+pub use echo_tails::TAIL_WINDOWS;
+pub use hearing::{Heard, Hearing};
 pub use receiver::Receiver;
-pub use sight::{CLEAR, LEAST_LEVEL, SHARE, SHARE_OF, STEADY, Sight, TWIST, seen};
-pub use steady::STEADY_WINDOWS;
-pub use tails::{TAIL_ROW, TAIL_WEAKER, TAIL_WINDOWS};
+pub use sight::Sight;

@@ -1,12 +1,12 @@
 // A receiver, which takes one sample at a time.
 ghost use Rattle.std.specs.Prelude.{◌≡◌, take, drop};
 
+use crate::ear_parts::PlainEar;
+use crate::echo_tails::{TAIL_WINDOWS, move_on, without_tail};
 use crate::hearing::{Heard, Hearing, hear, silent};
+use crate::hum::{beside, lessened};
 use crate::levels::levels_of;
-use crate::plain::PlainEar;
-use crate::sight::seen;
-use crate::steady::{beside, lessened};
-use crate::tails::{TAIL_WINDOWS, moved_on, strength, without_tail};
+use crate::sight::{Sight, seen};
 use std::marker::Model;
 
 // How many samples a window has, and how many the next one begins later.
@@ -15,12 +15,12 @@ const WINDOW: usize = 80;
 const HOP: usize = 20;
 
 /// A receiver that takes one sample at a time, for as long as they come, and gives the keys but for the tails that a
-/// room leaves of them. It keeps 80 samples, what the last 64 windows held, and the least that lay beside of late.
+/// room leaves of them. It keeps 80 samples, what stood out in the last 64 windows, and the least that lay beside of late.
 #[derive(Drop)]
 pub struct Receiver {
     window: [i16; WINDOW],
     filled: usize,
-    held: [u64; TAIL_WINDOWS],
+    held: [Option<Sight>; TAIL_WINDOWS],
     least: u64,
     hearing: Hearing,
 }
@@ -65,7 +65,7 @@ impl Receiver {
         Receiver {
             window: [0; WINDOW],
             filled: 0,
-            held: [0; TAIL_WINDOWS],
+            held: [None; TAIL_WINDOWS],
             least: 0,
             hearing: silent(),
         }
@@ -85,7 +85,7 @@ impl Receiver {
         let sight = seen(self.least, levels);
         let (hearing, key) = hear(self.hearing, without_tail(&self.held, sight));
         self.hearing = hearing;
-        self.held = moved_on(self.held, strength(sight));
+        move_on(&mut self.held, sight);
         self.least = lessened(self.least, beside(levels));
         self.window = shifted(self.window);
         self.filled = WINDOW - HOP;

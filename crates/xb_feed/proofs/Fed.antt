@@ -179,6 +179,26 @@ goes_on kind old new reader bytes said follows same down =
     let P : Reader → Type 0 = λ r. Follows old.reader r bytes said in
     record { said = said; follows = subst P (sym same) follows; down = down }
 
+-- bytes of which none was taken
+halts_first :
+    {C G : Type 0} (kind : Follower C G)
+    (old new : Intake C G) (bytes : List ℕ) (put : List Event) (fault : RecordingFault)
+    → IsFaultAfter kind old.reader (watch_of old.lines) bytes put new.reader fault
+    → string_bytes new.text ≡ string_bytes old.text ++ certain_text kind (watch_of old.lines) put
+    → IsFaultOfPiece kind old bytes new fault
+halts_first kind old new bytes put fault why records = inr (record {
+  taken = [];
+  refused = bytes;
+  rest = [];
+  are = sym (append-nil bytes);
+  reader = old.reader;
+  said = [];
+  put = put;
+  follows = follows_none old.reader;
+  why = why;
+  records = records;
+})
+
 -- bytes that a reader refused
 pub halts_refused :
     {C G : Type 0} (kind : Follower C G)
@@ -186,18 +206,10 @@ pub halts_refused :
     → IsFaultOf new.reader refusal fault → Refuses old.reader bytes refusal
     → (is_text old.reader.source ≡ true → new.reader.lines ≡ lines_ended old.reader)
     → string_bytes new.text ≡ string_bytes old.text → IsFaultOfPiece kind old bytes new fault
-halts_refused kind old new bytes refusal fault told refused place same = inr (record {
-  taken = [];
-  refused = bytes;
-  rest = [];
-  are = sym (append-nil bytes);
-  reader = old.reader;
-  said = [];
-  put = [];
-  follows = follows_none old.reader;
-  why = record { refusal = refusal; told = told; place = λ h. ap one_more (place h); why = inl (refused, refl) };
-  records = same ∙ sym (append-nil (string_bytes old.text));
-})
+halts_refused kind old new bytes refusal fault told refused place same =
+    halts_first kind old new bytes [] fault
+    (record { refusal = refusal; told = told; place = λ h. ap one_more (place h); why = inl (refused, refl) })
+    (same ∙ sym (append-nil (string_bytes old.text)))
 
 -- bytes that say what is too late
 pub halts_late :
@@ -211,23 +223,15 @@ halts_late kind old new reader bytes events fault takes place same late =
     let P : Reader → Type 0 = λ r. Takes old.reader r bytes events in
     elim late [
       | inl none ↦ inl none
-      | inr (told, (put, rows, is_late)) ↦ inr (record {
-        taken = [];
-        refused = bytes;
-        rest = [];
-        are = sym (append-nil bytes);
-        reader = old.reader;
-        said = [];
-        put = put;
-        follows = follows_none old.reader;
-        why = record {
-          refusal = refusals.TooLate;
-          told = told;
-          place = λ h. ap (λ r. line_number r) same ∙ ap one_more (place h);
-          why = inr (refl, (events, subst P (sym same) takes, is_late));
-        };
-        records = rows;
-      })
+      | inr (told, (put, rows, is_late)) ↦
+          halts_first kind old new bytes put fault
+          (record {
+            refusal = refusals.TooLate;
+            told = told;
+            place = λ h. ap (λ r. line_number r) same ∙ ap one_more (place h);
+            why = inr (refl, (events, subst P (sym same) takes, is_late));
+          })
+          rows
     ]
 
 -- a fault after bytes that were taken

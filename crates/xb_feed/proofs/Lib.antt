@@ -9,3 +9,4 @@ pub mod Listened
 pub mod CutNames
 pub mod WordWires
 pub mod TallyLemmas
+pub mod UnfitWords

@@ -5,6 +5,7 @@ use Rattle.std.proofs.KnownBytes.{Appends-nil, Appends-trans, Consumes-nil, Cons
 use Rattle.xb_feed.specs.declared.feed.Intake.{Intake}
 use Rattle.xb_feed.specs.declared.fault.RecordingFault.{RecordingFault}
 use Rattle.xb_feed.specs.declared.fault.RecordingFault.TheVariants as faults
+use Rattle.xb_feed.specs.declared.reading.Unread.{Unread}
 use Rattle.xb_feed.specs.Feeding.{Feeds, IsFaultOfRest, Stops, StopsOf, Writes, Wrote}
 use Rattle.xb_feed.specs.Followers.{Follower}
 use Rattle.xb_feed.specs.Watches.{watch_of}
@@ -108,9 +109,8 @@ fed_fault kind old mid (Some text) (Some left) (Some rest) a b c bytes piece fau
 -- a read that failed
 pub fed_read :
     {C G : Type 0} (kind : Follower C G)
-    (old mid : Intake C G) (input left a b : Option (List ℕ)) (fault : RecordingFault) → Feeds kind old mid input left a b
-    → fault ≡ faults.Read → StopsOf kind old input fault a b
-fed_read kind old mid input left a b fault fed is =
-    fed_fault kind old mid input left left a b b [] [] fault fed (Consumes-nil left) refl
-    (λ later. let P : RecordingFault → Type 0 = λ f. Stops kind mid.reader (watch_of mid.lines) later f b b in
-    subst P (sym is) (stops_read kind mid.reader (watch_of mid.lines) later b))
+    (old mid : Intake C G) (input left a b : Option (List ℕ)) (unread : Unread) → Feeds kind old mid input left a b
+    → StopsOf kind old input (faults.Read unread) a b
+fed_read kind old mid input left a b unread fed =
+    fed_fault kind old mid input left left a b b [] [] (faults.Read unread) fed (Consumes-nil left) refl
+    (λ later. stops_read kind mid.reader (watch_of mid.lines) later unread b)

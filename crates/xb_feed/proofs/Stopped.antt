@@ -7,6 +7,7 @@ use Rattle.xb_contact.specs.declared.event.Refusal.{Refusal}
 use Rattle.xb_recording.specs.declared.reader.Reader.{Reader}
 use Rattle.xb_feed.specs.declared.fault.RecordingFault.{RecordingFault}
 use Rattle.xb_feed.specs.declared.fault.RecordingFault.TheVariants as faults
+use Rattle.xb_feed.specs.declared.reading.Unread.{Unread}
 use Rattle.xb_feed.specs.Faults.{IsFaultAtEnd, IsFaultOf}
 use Rattle.xb_feed.specs.Feeding.{IsFaultOfRest, IsWithin, SaysFirst, Stops, Wrote}
 use Rattle.xb_feed.specs.Followers.{Follower}
@@ -24,7 +25,7 @@ why_within kind reader watch later (faults.Beginning reason) text ne w = inl w
 why_within kind reader watch later (faults.End reason) text ne w = absurd w.why.told
 why_within kind reader watch later (faults.NoLevel line) text ne w = absurd w.why.told
 why_within kind reader watch later faults.Write text ne w = absurd w.why.told
-why_within kind reader watch later faults.Read text ne w = absurd w.why.told
+why_within kind reader watch later (faults.Read unread) text ne w = absurd w.why.told
 why_within kind reader watch later faults.NoMemory text ne w = absurd (ne refl)
 
 -- one at the end
@@ -38,7 +39,7 @@ why_at_end kind reader watch (faults.Beginning reason) e = inr (refl, refl, e)
 why_at_end kind reader watch (faults.End reason) e = absurd e.told
 why_at_end kind reader watch (faults.NoLevel line) e = absurd e.told
 why_at_end kind reader watch faults.Write e = absurd e.told
-why_at_end kind reader watch faults.Read e = absurd e.told
+why_at_end kind reader watch (faults.Read unread) e = absurd e.told
 why_at_end kind reader watch faults.NoMemory e = refl
 
 -- what was written
@@ -50,7 +51,7 @@ wrote_then (faults.Sample number reason) a b c first second p q = Appends-trans 
 wrote_then (faults.Beginning reason) a b c first second p q = Appends-trans a b c first second p q
 wrote_then (faults.End reason) a b c first second p q = Appends-trans a b c first second p q
 wrote_then (faults.NoLevel line) a b c first second p q = Appends-trans a b c first second p q
-wrote_then faults.Read a b c first second p q = Appends-trans a b c first second p q
+wrote_then (faults.Read unread) a b c first second p q = Appends-trans a b c first second p q
 wrote_then faults.NoMemory a b c first second p q = Appends-trans a b c first second p q
 wrote_then faults.Write a b c first second p q = AppendsBeginning-second a b c first second p q
 
@@ -62,7 +63,7 @@ wrote_all (faults.Sample number reason) reader refusal a b text told p = p
 wrote_all (faults.Beginning reason) reader refusal a b text told p = p
 wrote_all (faults.End reason) reader refusal a b text told p = p
 wrote_all (faults.NoLevel line) reader refusal a b text told p = p
-wrote_all faults.Read reader refusal a b text told p = p
+wrote_all (faults.Read unread) reader refusal a b text told p = p
 wrote_all faults.NoMemory reader refusal a b text told p = p
 wrote_all faults.Write reader refusal a b text told p = absurd told
 
@@ -72,7 +73,7 @@ wrote_nothing (faults.Sample number reason) a = Appends-nil a
 wrote_nothing (faults.Beginning reason) a = Appends-nil a
 wrote_nothing (faults.End reason) a = Appends-nil a
 wrote_nothing (faults.NoLevel line) a = Appends-nil a
-wrote_nothing faults.Read a = Appends-nil a
+wrote_nothing (faults.Read unread) a = Appends-nil a
 wrote_nothing faults.NoMemory a = Appends-nil a
 wrote_nothing faults.Write a = (0, Appends-nil a)
 
@@ -103,8 +104,10 @@ stops_no_memory kind reader watch bytes fault a b is kept =
 
 pub stops_read :
     {C G : Type 0} (kind : Follower C G)
-    (reader : Reader) (watch : Watch C G) (bytes : List ℕ) (a : Option (List ℕ)) → Stops kind reader watch bytes faults.Read a a
-stops_read kind reader watch bytes a = stops_at_once kind reader watch bytes [] faults.Read a a refl (Appends-nil a)
+    (reader : Reader) (watch : Watch C G) (bytes : List ℕ) (unread : Unread) (a : Option (List ℕ))
+    → Stops kind reader watch bytes (faults.Read unread) a a
+stops_read kind reader watch bytes unread a =
+    stops_at_once kind reader watch bytes [] (faults.Read unread) a a refl (Appends-nil a)
 
 -- nothing is said of nothing
 pub says_nothing : (reader : Reader) (later : List ℕ) → SaysFirst reader later []

@@ -17,8 +17,8 @@ use Rattle.xb_recording.specs.Beginnings.{all_passed_over, form_told, is_archive
 use Rattle.xb_recording.specs.Says.{text_lines}
 use Rattle.xb_recording.proofs.ToldWithin.{told_stays, why_form, why_same}
 use Rattle.xb_feed.specs.declared.beginning.TheConstants.{MOST_BEGINNING_BYTES}
-use Rattle.xb_feed.specs.declared.fault.RecordingFault.{RecordingFault}
 use Rattle.xb_feed.specs.declared.fault.RecordingFault.TheVariants as faults
+use Rattle.xb_feed.specs.declared.reading.Unread.{Unread}
 use Rattle.xb_feed.specs.Beginnings.{IsUntold, TellsForm}
 
 -- what is so of so many bytes, whatever follows, is so of all
@@ -151,9 +151,9 @@ untold_long (Some text) (Some rest) bytes read long none =
     )
 
 pub untold_read :
-    (input : Option (List ℕ)) (fault : RecordingFault) → fault ≡ faults.Read → IfSome input (λ text. IsUntold text fault)
-untold_read None fault is = tt
-untold_read (Some text) fault is = subst (IsUntold text) (sym is) tt
+    (input : Option (List ℕ)) (unread : Unread) → IfSome input (λ text. IsUntold text (faults.Read unread))
+untold_read None unread = tt
+untold_read (Some text) unread = tt
 
 pub untold_memory : (input : Option (List ℕ)) → IfSome input (λ text. IsUntold text faults.NoMemory)
 untold_memory None = tt

@@ -25,6 +25,6 @@ pub record TellsNone (text : List ℕ) : Type 0 where
 -- ran out
 abbrev pub IsUntold : List ℕ → RecordingFault → Type 0
 IsUntold text (faults.Beginning reason) = (reason ≡ why_untold text) × TellsNone text
-IsUntold text faults.Read = Unit {0}
+IsUntold text (faults.Read unread) = Unit {0}
 IsUntold text faults.NoMemory = Unit {0}
 IsUntold text fault = ⊥

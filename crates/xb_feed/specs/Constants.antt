@@ -12,7 +12,7 @@ pub record AreConstants : Type 0 where
   pub settle_ms : SETTLE_MS ≡ 5
   pub seize_ms : SEIZE_MS ≡ 0
   pub ringing_seize_ms : RINGING_SEIZE_MS ≡ 150
-  pub least_ringing_seize_ms : LEAST_RINGING_SEIZE_MS ≡ 66
+  pub least_ringing_seize_ms : LEAST_RINGING_SEIZE_MS ≡ 68
   pub answer_ms : ANSWER_MS ≡ 4500
   pub threshold_percent : THRESHOLD_PERCENT ≡ 6
   pub most_beginning_bytes : MOST_BEGINNING_BYTES ≡ 131072

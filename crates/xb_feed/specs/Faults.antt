@@ -36,7 +36,7 @@ IsFaultOf reader refusal (faults.Beginning reason) =
 IsFaultOf reader refusal faults.NoMemory = Unit {0}
 IsFaultOf reader refusal (faults.End reason) = ⊥
 IsFaultOf reader refusal (faults.NoLevel line) = ⊥
-IsFaultOf reader refusal faults.Read = ⊥
+IsFaultOf reader refusal (faults.Read unread) = ⊥
 IsFaultOf reader refusal faults.Write = ⊥
 
 -- of what is said this was put down, and what comes next has a time that is too late

@@ -180,7 +180,7 @@ IsFaultOfRest f reader watch later faults.Write text =
     ((put : List Event) × SaysFirst reader later put × (text ≡ certain_text f watch put))
     ⊎ ((events : List Event) × (later ≡ []) × RestSays reader [] events
     × (silent_line (watch_after f watch events).lines ≡ None) × (text ≡ text_of_events f watch events))
-IsFaultOfRest f reader watch later faults.Read text = text ≡ []
+IsFaultOfRest f reader watch later (faults.Read unread) text = text ≡ []
 IsFaultOfRest f reader watch later faults.NoMemory text = text ≡ []
 
 -- an output got a text, or its beginning where a write failed

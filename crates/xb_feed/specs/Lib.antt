@@ -1,7 +1,9 @@
 pub mod Constants
+pub mod FaultTexts
 pub mod Followers
 pub mod Watching
 pub mod Watches
+pub mod Reading
 pub mod Beginnings
 pub mod Faults
 pub mod LackedWires

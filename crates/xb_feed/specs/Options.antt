@@ -105,6 +105,10 @@ pub record IsForAll (rows : List Row) (all : Own) : Type 0 where
   pub ringing : ReadsFlag (given_by rows (codes "ringing")) all.ringing
   pub inverted : ReadsFlag (given_by rows (codes "inverted")) all.inverted
 
+-- whether some line rings
+abbrev pub any_rings : List AskedLine → Bool
+any_rings lines = list_any (λ line. line.manner.ringing) lines
+
 -- what clap matched says this, where something holds for all lines
 pub record Say {G : Type 0} (rows : List Row) (common : G) (request : Request G) : Type 0 where
   pub recording : option_map (λ name. name.now) request.recording ≡ first_of (codes "RECORDING") rows
@@ -116,7 +120,7 @@ pub record Say {G : Type 0} (rows : List Row) (common : G) (request : Request G)
   pub threshold : ReadsOr (given_by rows (codes "threshold")) THRESHOLD_PERCENT request.wanted.threshold.percent
   pub notes : Bool
   pub notes_are : ReadsFlag (given_by rows (codes "bounces")) notes
-  pub said : request.said ≡ (notes || request.wanted.lossy)
+  pub said : request.said ≡ (notes || request.wanted.lossy || any_rings request.lines.items)
   pub all : Own
   pub for_all : IsForAll rows all
   pub wires : wires_after all ([], []) (wire_words rows) ≡ Some (request.lines.items, names_in request.wanted)

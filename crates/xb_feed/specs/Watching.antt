@@ -1,10 +1,11 @@
 -- The lines that are listened to, and what is told of them as a recording comes.
-use Rattle.std.specs.Prelude.{ℕ, ◌≡◌, ◌+◌, ◌-◌, ◌*◌, ◌/◌, ◌^◌, ◌<◌, ◌≤◌, max, List, [], ◌∷◌, ◌++◌, Bool, true, false, Option, Some, None, is_some, map, slice_get, slice_set, ◌||◌, if◌then◌else◌}
+use Rattle.std.specs.Prelude.{ℕ, ◌≡◌, ◌+◌, ◌-◌, ◌*◌, ◌/◌, ◌^◌, ◌<◌, ◌≤◌, max, min, List, [], ◌∷◌, ◌++◌, Bool, true, false, Option, Some, None, is_some, map, slice_get, slice_set, unwrap_or, ◌||◌, if◌then◌else◌}
 use Rattle.std.specs.List.{AllByRecursion, flat_map}
 use Rattle.std.specs.Option.{option_map_or}
 use Rattle.xb_contact.specs.declared.event.Event.{Event}
 use Rattle.xb_contact.specs.declared.event.Event.TheVariants as events
 use Rattle.xb_contact.specs.declared.level.Level.{Level}
+use Rattle.xb_contact.specs.declared.level.Level.TheVariants.{Open, Closed}
 use Rattle.xb_contact.specs.declared.scale.Scale.{Scale}
 use Rattle.xb_contact.specs.Holds.{other_level}
 use Rattle.xb_contact.specs.Times.{CanCount}
@@ -103,36 +104,122 @@ abbrev pub wire_changed : {C G : Type 0} → Follower C G → G → Scale → �
 wire_changed f common scale tick level wire lines =
     option_map_or (λ line. slice_set lines wire (line_changed f common scale tick level line)) (slice_get lines wire) lines
 
--- the lines in the order of their wires, what holds for all of them, how long a tick is, once that is known, and
--- the tick up to which the recording goes
+-- from how many ms on a make settles and seizes
+abbrev pub seizing_ms : Manner → ℕ
+seizing_ms manner = max (max manner.settle_ms manner.seize_ms) 1
+
+-- where a wire has its first edge, its record begins with the level that this leaves: at the first tick of the recording,
+-- and a make early enough to seize
+abbrev pub begins_at : Manner → Scale → ℕ → ℕ → Level → ℕ
+begins_at manner scale first now Open = min first now
+begins_at manner scale first now Closed = min first (now - least_ticks scale (seizing_ms manner))
+
+abbrev pub contact_before : {C G : Type 0} → Follower C G → Manner → G → Scale → ℕ → ℕ → Level → C
+contact_before f manner common scale first now level =
+    begun_contact f manner common scale (begins_at manner scale first now level) level
+
+-- whether that can be: the ticks of such a make can be counted, and the level may hold up to the edge
+abbrev pub CanBeginBefore : {C G : Type 0} → Follower C G → Manner → G → Scale → ℕ → ℕ → Level → Type 0
+CanBeginBefore f manner common scale first now level =
+    CanBegin manner scale × (seizing_ms manner * scale.ticks + (scale.ms - 1) < 2 ^ 64)
+    × f.CanHold (contact_before f manner common scale first now level) now
+
+-- an edge to a level: what is told with it, the contact then, and whether it can be heard
+abbrev pub edge_told :
+    {C G : Type 0} (f : Follower C G) → ℕ → Manner → G → Scale → ℕ → ℕ → Level → Option C → List f.Told
+edge_told f number manner common scale first now level None =
+    f.given number (contact_before f manner common scale first now (other_level level)) now
+edge_told f number manner common scale first now level (Some contact) = []
+
+abbrev pub contact_edged : {C G : Type 0} → Follower C G → Manner → G → Scale → ℕ → ℕ → Level → Option C → C
+contact_edged f manner common scale first now level None =
+    f.changed (f.held (contact_before f manner common scale first now (other_level level)) now) level
+contact_edged f manner common scale first now level (Some contact) = f.changed contact level
+
+abbrev pub ContactHasEdge : {C G : Type 0} → Follower C G → Manner → G → Scale → ℕ → ℕ → Level → Option C → Type 0
+ContactHasEdge f manner common scale first now level None =
+    CanBeginBefore f manner common scale first now (other_level level)
+ContactHasEdge f manner common scale first now level (Some contact) = Unit {0}
+
+-- the same of the wire of a line
+abbrev pub line_edge_told : {C G : Type 0} (f : Follower C G) → G → Scale → ℕ → ℕ → Level → Line C → List f.Told
+line_edge_told f common scale first now level line =
+    edge_told f line.number line.manner common scale first now (level_seen line.manner.inverted level) line.contact
+
+abbrev pub line_edged : {C G : Type 0} → Follower C G → G → Scale → ℕ → ℕ → Level → Line C → Line C
+line_edged f common scale first now level line =
+    watched_of line.number line.manner
+    (Some (contact_edged f line.manner common scale first now (level_seen line.manner.inverted level) line.contact))
+
+abbrev pub CanHaveEdge : {C G : Type 0} → Follower C G → G → Scale → ℕ → ℕ → Level → Line C → Type 0
+CanHaveEdge f common scale first now level line =
+    ContactHasEdge f line.manner common scale first now (level_seen line.manner.inverted level) line.contact
+
+-- and of a wire, counted from 0
+abbrev pub wire_edge_told :
+    {C G : Type 0} (f : Follower C G) → G → Scale → ℕ → ℕ → Level → ℕ → List (Line C) → List f.Told
+wire_edge_told f common scale first now level wire lines =
+    option_map_or (line_edge_told f common scale first now level) (slice_get lines wire) []
+
+abbrev pub wire_edged :
+    {C G : Type 0} → Follower C G → G → Scale → ℕ → ℕ → Level → ℕ → List (Line C) → List (Line C)
+wire_edged f common scale first now level wire lines =
+    option_map_or (λ line. slice_set lines wire (line_edged f common scale first now level line))
+    (slice_get lines wire) lines
+
+abbrev pub CanEdgeWire :
+    {C G : Type 0} → Follower C G → G → Option Scale → ℕ → ℕ → Level → ℕ → List (Line C) → Type 0
+CanEdgeWire f common None first now level wire lines = ⊥
+CanEdgeWire {C} f common (Some scale) first now level wire lines =
+    (line : Line C) × (slice_get lines wire ≡ Some line) × CanHaveEdge f common scale first now level line
+
+-- the lines in the order of their wires, what holds for all of them, how long a tick is, once that is known, the first
+-- tick that the recording tells, once it does, and that up to which it goes
 pub record Watch (C G : Type 0) : Type 0 where
   pub lines : List (Line C)
   pub common : G
   pub scale : Option Scale
+  pub first : Option ℕ
   pub now : ℕ
+
+abbrev pub first_of : {C G : Type 0} → Watch C G → ℕ
+first_of watch = unwrap_or watch.first watch.now
 
 -- lines whose wires have no level yet
 abbrev pub begun_watched : {C : Type 0} → AskedLine → Line C
 begun_watched asked = watched_of asked.number asked.manner None
 
 abbrev pub begun_watch : {C G : Type 0} → G → List AskedLine → Watch C G
-begun_watch common lines = record { lines = map begun_watched lines; common = common; scale = None; now = 0 }
+begun_watch common lines = record { lines = map begun_watched lines; common = common; scale = None; first = None; now = 0 }
 
 abbrev pub level_heard : {C G : Type 0} → Follower C G → Watch C G → Option Scale → ℕ → Level → Watch C G
 level_heard f watch None wire level = watch
 level_heard f watch (Some scale) wire level =
     record watch { lines = wire_changed f watch.common scale watch.now level wire watch.lines }
 
+abbrev pub edge_heard : {C G : Type 0} → Follower C G → Watch C G → Option Scale → ℕ → Level → Watch C G
+edge_heard f watch None wire level = watch
+edge_heard f watch (Some scale) wire level =
+    record watch { lines = wire_edged f watch.common scale (first_of watch) watch.now level wire watch.lines }
+
+abbrev pub told_at_edge : {C G : Type 0} (f : Follower C G) → Watch C G → Option Scale → ℕ → Level → List f.Told
+told_at_edge f watch None wire level = []
+told_at_edge f watch (Some scale) wire level =
+    wire_edge_told f watch.common scale (first_of watch) watch.now level wire watch.lines
+
 -- what is told for certain with what a recording says next, and what is known then
 abbrev pub event_told : {C G : Type 0} (f : Follower C G) → Watch C G → Event → List f.Told
 event_told f watch (events.Ticks scale) = []
 event_told f watch (events.At tick) = told_until f tick watch.lines
 event_told f watch (events.Level wire level) = []
+event_told f watch (events.Edge wire level) = told_at_edge f watch watch.scale wire level
 
 abbrev pub heard_event : {C G : Type 0} → Follower C G → Watch C G → Event → Watch C G
 heard_event f watch (events.Ticks scale) = record watch { scale = Some scale }
-heard_event f watch (events.At tick) = record watch { lines = all_held f tick watch.lines; now = tick }
+heard_event f watch (events.At tick) =
+    record watch { lines = all_held f tick watch.lines; first = Some (unwrap_or watch.first tick); now = tick }
 heard_event f watch (events.Level wire level) = level_heard f watch watch.scale wire level
+heard_event f watch (events.Edge wire level) = edge_heard f watch watch.scale wire level
 
 -- whether a contact is followed already
 abbrev pub has_begun : {C : Type 0} → List (Line C) → Bool
@@ -153,6 +240,8 @@ abbrev pub CanHear : {C G : Type 0} → Follower C G → Watch C G → Event →
 CanHear f watch (events.Ticks scale) = Unit {0}
 CanHear f watch (events.At tick) = AllByRecursion (CanReach f tick) watch.lines × ComesSoon watch tick
 CanHear f watch (events.Level wire level) = CanChangeWire watch.scale wire watch.lines
+CanHear f watch (events.Edge wire level) =
+    CanEdgeWire f watch.common watch.scale (first_of watch) watch.now level wire watch.lines
 
 abbrev pub CanHearAll : {C G : Type 0} → Follower C G → Watch C G → List Event → Type 0
 CanHearAll f watch [] = Unit {0}

@@ -1,17 +1,15 @@
 // The beginning of a recording, as far as it tells its form.
-ghost use Rattle.std.specs.Prelude.{◌≡◌, ◌<◌, ◌≤◌, Ok, None, IfErr, IfNone, IfOk, IfSome, length, take};
-ghost use Rattle.std.specs.Io.KnownBytes.{Consumes, IsAtEnd};
+ghost use Rattle.std.specs.Prelude.{◌≡◌, None, IfErr, IfNone, IfOk, IfSome, take};
+ghost use Rattle.std.specs.Io.KnownBytes.{Consumes};
 ghost use Rattle.xb_feed.specs.Beginnings.{IsUntold, TellsForm};
 ghost use Rattle.xb_feed.specs.declared.beginning.TheConstants.{MOST_BEGINNING_BYTES};
 
 use crate::fault::RecordingFault;
+use crate::reading::{BUFFER_BYTES, read_once};
 use std::alloc::{AllocError, Global};
 use std::io::Read;
 use xb_contact::Refusal;
 use xb_recording::{Format, Told, told_format, why_untold};
-
-/// How many bytes are read at once.
-pub(crate) const BUFFER_BYTES: usize = 8_192;
 
 // The most bytes of a recording that are looked at to tell its form: two of the longest text lines.
 const MOST_BEGINNING_BYTES: usize = 131_072;
@@ -24,20 +22,6 @@ pub(crate) fn first_bytes(text: &[u8], most: usize) -> &[u8]
         return text;
     }
     &text[..most]
-}
-
-/// Reads once.
-pub(crate) fn read_once<R: Read>(input: &mut R, buffer: &mut [u8]) -> Result<usize, RecordingFault>
-    ensures within { IfOk result (λ n. n ≤ length buffer.old) }
-    ensures bytes { IfOk result (λ n.
-        Consumes (R.remaining input.old) (R.remaining input.new) (take n buffer.new)) }
-    ensures end { result ≡ Ok 0 → 0 < length buffer.old → IsAtEnd (R.remaining input.new) }
-    ensures failed { IfErr result (λ fault. fault ≡ RecordingFault.Read) }
-{
-    match input.read(buffer) {
-        Ok(n) => Ok(n),
-        Err(_) => Err(RecordingFault::Read),
-    }
 }
 
 // The beginning of a recording, as far as it tells its form, and that form.

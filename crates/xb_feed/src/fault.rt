@@ -2,7 +2,9 @@
 ghost use Rattle.std.specs.Prelude.{◌≡◌, map, option_map};
 ghost use Rattle.xb_feed.specs.LackedWires.{missing_in, missing_name, missing_wire};
 
+use crate::reading::Unread;
 use std::alloc::AllocError;
+use std::fmt;
 use thiserror::Error;
 use xb_contact::Refusal;
 use xb_text::WriteFault;
@@ -11,29 +13,47 @@ use xb_text::WriteFault;
 #[derive(Debug, Drop, Error)]
 pub enum RecordingFault {
     /// A text line, counted from 1, is refused; what it begins with.
-    #[error("text line {0}: {1}: {2}")]
     Line(u64, Refusal, String),
     /// A sample, counted from 1, is refused.
-    #[error("sample {0}: {1}")]
     Sample(u64, Refusal),
     /// The recording is refused before it is read.
-    #[error("the recording: {0}")]
     Beginning(Refusal),
     /// Its end is refused.
-    #[error("the end of the recording: {0}")]
     End(Refusal),
     /// It ends before the wire of this line has a level.
-    #[error("the wire of line {0} has no level in the recording")]
     NoLevel(u16),
-    /// A read failed, an interrupted one too.
-    #[error("the recording could not be read")]
-    Read,
+    /// A read failed, an interrupted one too, or the recording had not ended after 2^64 - 1 reads.
+    Read(Unread),
     /// A write or the flush failed, or a write took no byte.
-    #[error("the rows could not be written")]
     Write,
     /// Memory ran out.
-    #[error("out of memory")]
     NoMemory,
+}
+
+impl fmt::Display for RecordingFault {
+    ghost use Rattle.std.specs.Prelude.{Some};
+    ghost use Rattle.xb_feed.specs.FaultTexts.{recording_text};
+
+    ghost output = { λ fault. Some (recording_text fault) };
+
+    fn fmt<W: fmt::Write>(&self, f: &mut fmt::Formatter<W>) -> fmt::Result {
+        match self {
+            RecordingFault::Line(number, refusal, text) => write!(
+                f,
+                "text line {number}: {refusal}: {text}"
+            ),
+            RecordingFault::Sample(number, refusal) => write!(f, "sample {number}: {refusal}"),
+            RecordingFault::Beginning(refusal) => write!(f, "the recording: {refusal}"),
+            RecordingFault::End(refusal) => write!(f, "the end of the recording: {refusal}"),
+            RecordingFault::NoLevel(line) => write!(
+                f,
+                "the wire of line {line} has no level in the recording"
+            ),
+            RecordingFault::Read(_) => f.write_str("the recording could not be read"),
+            RecordingFault::Write => f.write_str("the rows could not be written"),
+            RecordingFault::NoMemory => f.write_str("out of memory"),
+        }
+    }
 }
 
 // The wire that is missing, where that is the reason.
@@ -56,7 +76,7 @@ fn missing_wire(fault: &RecordingFault) -> Option<usize>
         | RecordingFault::Beginning(refusal)
         | RecordingFault::End(refusal) => missing_in(*refusal),
         RecordingFault::NoLevel(_)
-        | RecordingFault::Read
+        | RecordingFault::Read(_)
         | RecordingFault::Write
         | RecordingFault::NoMemory => None,
     }
@@ -79,6 +99,16 @@ impl From<AllocError> for RecordingFault {
 
     fn from(_error: AllocError) -> RecordingFault {
         RecordingFault::NoMemory
+    }
+}
+
+impl From<Unread> for RecordingFault {
+    ghost use Rattle.xb_feed.specs.declared.fault.RecordingFault.TheVariants.{Read};
+
+    ghost from_gives = { λ unread e. e ≡ Read unread };
+
+    fn from(unread: Unread) -> RecordingFault {
+        RecordingFault::Read(unread)
     }
 }
 

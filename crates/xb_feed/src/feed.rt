@@ -8,10 +8,11 @@ ghost use Rattle.xb_feed.specs.Feeding.{CannotBegin, CannotRead, Ends, EndsOf, F
 ghost use Rattle.xb_feed.specs.Watches.{watch_of};
 ghost use Rattle.xb_feed.specs.Watching.{left_text, notes_of, silent_line};
 
-use crate::beginning::{BUFFER_BYTES, beginning_of, first_bytes, read_once};
+use crate::beginning::{beginning_of, first_bytes};
 use crate::fault::RecordingFault;
 use crate::follower::Follow;
 use crate::lines::Lines;
+use crate::reading::{BUFFER_BYTES, Reads};
 use crate::request::Request;
 use std::alloc::{AllocError, Global};
 use std::io::{Read, Write};
@@ -288,14 +289,14 @@ fn take_all<G: Copy + Drop, C: Follow<G> + Drop, R: Read, W: Write>(
         StopsOf C.rules feed.old (R.remaining input.old) fault (W.contents out.old) (W.contents out.new)) }
 {
     let mut buffer = [0u8; BUFFER_BYTES];
-    for _ in 0..u64::MAX {
-        let n = read_once(input, &mut buffer)?;
+    let mut reads = Reads::new();
+    'pieces: loop {
+        let n = reads.read_once(input, &mut buffer)?;
         if n == 0 {
             return Ok(());
         }
         feed.take_and_write(&buffer[..n], out)?;
     }
-    Err(RecordingFault::Read)
 }
 
 // A reader of a recording of this form, that has taken nothing, and what it says already.

@@ -8,6 +8,7 @@
 //!   (`TellsForm`), each wire has had a level; and, where they are asked for, the notes of the lines. On `Err`
 //!   (`FailsToListen`) the fault is that of the reader where it stands, of a time that cannot be counted, of a wire without
 //!   a level, or of a read, a write or memory; and nothing was written, or exactly what is told of what comes before it.
+//! - `Unread`: a read that failed. `read_once` and `Reads` alone make it, so no other fault is told as one.
 //! - A refused piece of a recording is told by its place, its reason and what stands there (`Faults`). Where it lacks a wire,
 //!   the first such name of the command line is known (`missing_name`).
 //! - `Tally` (`laws::the_short_runs_are_counted`): the runs of a contact that are too short to settle, and the longest.
@@ -25,8 +26,8 @@ pub mod laws;
 mod line;
 mod lines;
 mod manner;
-mod name;
 mod own;
+mod reading;
 mod request;
 mod tally;
 mod words;
@@ -36,7 +37,7 @@ pub use feed::listen;
 pub use follower::Follow;
 pub use line::ticks_of;
 pub use manner::{AskedLine, Manner};
-pub use name::InOneLine;
+pub use reading::{Reads, Unread, read_once};
 pub use request::Request;
 pub use tally::{Bounces, Tally};
 pub use words::{FORMAT, INVERTED, RATE, RECORDING, SETTLE, THRESHOLD, WIRE, request_of};

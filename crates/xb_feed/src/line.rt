@@ -1,7 +1,7 @@
 // A line that is listened to.
-ghost use Rattle.std.specs.Prelude.{◌≡◌, ◌++◌, ◌+◌, ◌-◌, ◌*◌, ◌^◌, ◌<◌, ◌↔◌, IfSome, IsSome, IsTrue, None, OnOk, string_bytes, true};
+ghost use Rattle.std.specs.Prelude.{◌≡◌, ◌++◌, ◌+◌, ◌-◌, ◌*◌, ◌^◌, ◌<◌, ◌↔◌, IfOk, IfSome, IsSome, IsTrue, None, OnOk, false, string_bytes, true};
 ghost use Rattle.std.specs.List.{flat_map};
-ghost use Rattle.xb_feed.specs.Watching.{CanBegin, CanChange, CanReach, begun_contact, least_ticks, level_seen, line_changed, line_held, line_left, line_noted, line_told, watched_of};
+ghost use Rattle.xb_feed.specs.Watching.{CanBegin, CanBeginBefore, CanChange, CanHaveEdge, CanReach, begins_at, begun_contact, contact_before, least_ticks, level_seen, line_changed, line_edge_told, line_edged, line_held, line_left, line_noted, line_told, seizing_ms, watched_of};
 
 use crate::follower::Follow;
 use crate::manner::Manner;
@@ -58,6 +58,53 @@ fn level_seen(inverted: bool, level: Level) -> Level
     match (inverted, level) {
         (true, Level::Open) | (false, Level::Closed) => Level::Closed,
         (true, Level::Closed) | (false, Level::Open) => Level::Open,
+    }
+}
+
+// From how many ms on a make settles and seizes.
+fn seizing_ms(manner: Manner) -> u32
+    ensures { result ≡ seizing_ms manner }
+{
+    manner.settle_ms.max(manner.seize_ms).max(1)
+}
+
+// The tick at which the record of a wire begins that has its first edge now and leaves this level; `None` where a make
+// that seizes has more ticks than can be counted.
+fn begins_at(manner: Manner, scale: Scale, first: u64, now: u64, level: Level) -> Option<u64>
+    requires { 0 < scale.ms }
+    ensures value { IfSome result (λ tick. tick ≡ begins_at manner scale first now level) }
+    ensures can { IsSome result ↔ (seizing_ms manner * scale.ticks + (scale.ms - 1) < 2 ^ 64) }
+{
+    let ticks = ticks_of(scale, seizing_ms(manner))?;
+    match level {
+        Level::Open => Some(first.min(now)),
+        Level::Closed => Some(first.min(now.saturating_sub(ticks))),
+    }
+}
+
+// A contact up to its first edge, which leaves this level; `None` where no time can be counted.
+fn begun_before<G: Copy, C: Follow<G> + Drop>(
+    manner: Manner,
+    common: G,
+    scale: Scale,
+    first: u64,
+    now: u64,
+    level: Level,
+) -> Option<C>
+    ensures contact { IfSome result (λ contact.
+        contact ≡ contact_before C.rules manner common scale first now level) }
+    ensures holds { IfSome result (λ contact. C.rules.CanHold contact now) }
+    ensures can { IsSome result ↔ CanBeginBefore C.rules manner common scale first now level }
+{
+    if scale.ms == 0 {
+        return None;
+    }
+    let start = begins_at(manner, scale, first, now, level)?;
+    let contact = begun::<G, C>(manner, common, scale, start, level)?;
+    if contact.can_hold(now) {
+        Some(contact)
+    } else {
+        None
     }
 }
 
@@ -133,6 +180,42 @@ pub(crate) fn change<G: Copy, C: Follow<G> + Drop>(
         None => line.contact = begun::<G, C>(line.manner, common, scale, tick, level),
     }
     line.contact.is_some()
+}
+
+/// The wire of a line has an edge to a level. Before its first one it had the other level; what is certain with that is
+/// added to the text. It says false where no time can be counted.
+pub(crate) fn edge<G: Copy, C: Follow<G> + Drop>(
+    line: &mut Line<C>,
+    common: G,
+    scale: Scale,
+    first: u64,
+    now: u64,
+    level: Level,
+    text: &mut String,
+) -> Result<bool, AllocError>
+    ensures text { IfOk result (λ taken. taken ≡ true → string_bytes text.new ≡ string_bytes text.old
+        ++ flat_map C.rules.text (line_edge_told C.rules common scale first now level line.old)) }
+    ensures edged { IfOk result (λ taken. taken ≡ true
+        → line.new ≡ line_edged C.rules common scale first now level line.old) }
+    ensures can { IfOk result (λ taken.
+        taken ≡ true ↔ CanHaveEdge C.rules common scale first now level line.old) }
+    ensures kept { IfOk result (λ taken. taken ≡ false → string_bytes text.new ≡ string_bytes text.old) }
+{
+    let number = line.number;
+    let level = level_seen(line.manner.inverted, level);
+    if let Some(contact) = &mut line.contact {
+        contact.change(level);
+        return Ok(true);
+    }
+    let before = level_seen(true, level);
+    let Some(mut contact) = begun_before::<G, C>(line.manner, common, scale, first, now, before)
+    else {
+        return Ok(false);
+    };
+    contact.hold_until(number, now, text)?;
+    contact.change(level);
+    line.contact = Some(contact);
+    Ok(true)
 }
 
 /// Adds the note of a line whose wire had a level.

@@ -1,11 +1,11 @@
 // The lines that are listened to, and what is told of them.
-ghost use Rattle.std.specs.Prelude.{◌≡◌, ◌-◌, ◌++◌, ◌↔◌, IfOk, IsTrue, OnOk, Some, false, string_bytes, true};
+ghost use Rattle.std.specs.Prelude.{◌≡◌, ◌-◌, ◌++◌, ◌↔◌, IfOk, IsTrue, OnOk, Some, false, string_bytes, true, unwrap_or};
 ghost use Rattle.std.specs.List.{AllByRecursion, flat_map};
 ghost use Rattle.xb_feed.specs.Watches.{watch_of};
-ghost use Rattle.xb_feed.specs.Watching.{CanChangeWire, CanHear, CanReach, ComesSoon, IsNoGap, all_held, begun_watch, event_told, has_begun, heard_event, level_heard, line_left, line_noted, lines_noted, silent_line, told_until, wire_changed};
+ghost use Rattle.xb_feed.specs.Watching.{CanChangeWire, CanEdgeWire, CanHear, CanReach, ComesSoon, IsNoGap, all_held, begun_watch, edge_heard, event_told, first_of, has_begun, heard_event, level_heard, line_left, line_noted, lines_noted, silent_line, told_at_edge, told_until, wire_changed, wire_edge_told, wire_edged};
 
 use crate::follower::Follow;
-use crate::line::{Line, can_reach, change, end, hold_until, note};
+use crate::line::{Line, can_reach, change, edge, end, hold_until, note};
 use crate::request::Request;
 use std::alloc::{AllocError, Global};
 use xb_contact::{Event, Level, Scale};
@@ -19,6 +19,8 @@ pub struct Lines<C, G> {
     lines: Vec<Line<C>>,
     common: G,
     scale: Option<Scale>,
+    // The first tick that the recording tells, once it does.
+    first: Option<u64>,
     now: u64,
 }
 
@@ -97,6 +99,32 @@ fn change_line<G: Copy, C: Follow<G> + Drop>(
     change::<G, C>(line, common, scale, now, level)
 }
 
+// The wire of a line has an edge to a level. It says false where there is no such wire, or no time can be counted.
+fn edge_line<G: Copy, C: Follow<G> + Drop>(
+    lines: &mut [Line<C>],
+    wire: usize,
+    common: G,
+    scale: Scale,
+    first: u64,
+    now: u64,
+    level: Level,
+    text: &mut String,
+) -> Result<bool, AllocError>
+    ensures text { IfOk result (λ taken. taken ≡ true → string_bytes text.new ≡ string_bytes text.old
+        ++ flat_map C.rules.text (wire_edge_told C.rules common scale first now level wire lines.old)) }
+    ensures edged { IfOk result (λ taken. taken ≡ true
+        → lines.new ≡ wire_edged C.rules common scale first now level wire lines.old) }
+    ensures can { IfOk result (λ taken.
+        taken ≡ true ↔ CanEdgeWire C.rules common (Some scale) first now level wire lines.old) }
+    ensures kept { IfOk result (λ taken. taken ≡ false → string_bytes text.new ≡ string_bytes text.old) }
+{
+    if wire >= lines.len() {
+        return Ok(false);
+    }
+    let own = &mut lines[wire];
+    edge::<G, C>(own, common, scale, first, now, level, text)
+}
+
 // Adds the notes of lines.
 fn note_all<G, C: Follow<G>>(
     lines: &[Line<C>],
@@ -140,6 +168,7 @@ impl<C, G> Lines<C, G> {
             lines,
             common: request.common,
             scale: None,
+            first: None,
             now: 0,
         })
     }
@@ -173,6 +202,7 @@ impl<G: Copy, C: Follow<G> + Drop> Lines<C, G> {
         ensures held { IfOk result (λ taken. taken ≡ true
             → watch_of self.new ≡ record (watch_of self.old) {
               lines = all_held C.rules tick (watch_of self.old).lines;
+              first = Some (unwrap_or (watch_of self.old).first tick);
               now = tick;
             }) }
         ensures can { IfOk result (λ taken.
@@ -184,6 +214,7 @@ impl<G: Copy, C: Follow<G> + Drop> Lines<C, G> {
             return Ok(false);
         }
         hold_all::<G, C>(&mut self.lines, tick, text)?;
+        self.first = Some(self.first.unwrap_or(tick));
         self.now = tick;
         Ok(true)
     }
@@ -199,6 +230,33 @@ impl<G: Copy, C: Follow<G> + Drop> Lines<C, G> {
             return false;
         };
         change_line::<G, C>(&mut self.lines, wire, self.common, scale, self.now, level)
+    }
+
+    // A wire has an edge to a level. It says false where the time cannot be counted.
+    fn edge(&mut self, wire: usize, level: Level, text: &mut String) -> Result<bool, AllocError>
+        ensures text { IfOk result (λ taken. taken ≡ true → string_bytes text.new ≡ string_bytes text.old
+            ++ flat_map C.rules.text (told_at_edge C.rules (watch_of self.old) (watch_of self.old).scale wire level)) }
+        ensures heard { IfOk result (λ taken. taken ≡ true
+            → watch_of self.new ≡ edge_heard C.rules (watch_of self.old) (watch_of self.old).scale wire level) }
+        ensures can { IfOk result (λ taken.
+            taken ≡ true ↔ CanHear C.rules (watch_of self.old) (Event.Edge wire level)) }
+        ensures kept { IfOk result (λ taken. taken ≡ false
+            → string_bytes text.new ≡ string_bytes text.old) }
+    {
+        let Some(scale) = self.scale else {
+            return Ok(false);
+        };
+        let first = self.first.unwrap_or(self.now);
+        edge_line::<G, C>(
+            &mut self.lines,
+            wire,
+            self.common,
+            scale,
+            first,
+            self.now,
+            level,
+            text,
+        )
     }
 
     /// What a recording says next. It says false where the time cannot be counted, or comes over 100 days after the one
@@ -220,6 +278,7 @@ impl<G: Copy, C: Follow<G> + Drop> Lines<C, G> {
             }
             Event::At(tick) => self.hold_until(tick, text),
             Event::Level(wire, level) => Ok(self.change(wire, level)),
+            Event::Edge(wire, level) => self.edge(wire, level, text),
         }
     }
 

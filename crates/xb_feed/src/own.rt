@@ -29,8 +29,8 @@ const SEIZE_MS: u32 = 0;
 // An office needs some tenths of a second to attach a register.
 const RINGING_SEIZE_MS: u32 = 150;
 
-// A make of a period of ringing may last 65 ms.
-const LEAST_RINGING_SEIZE_MS: u32 = 66;
+// A make of a period of ringing may last 67 ms.
+const LEAST_RINGING_SEIZE_MS: u32 = 68;
 
 // Why a word after a comma is refused.
 const NO_WORD: &str = "after a comma may stand inverted, ringing, settle=MS or seize=MS";
@@ -205,7 +205,7 @@ impl Own {
         }
     }
 
-    /// How a line is listened to of which this is said. `None` where it rings, and a make of under 66 ms seizes, as a
+    /// How a line is listened to of which this is said. `None` where it rings, and a make of under 68 ms seizes, as a
     /// period of ringing may have.
     pub fn manner(self) -> Option<Manner>
         ensures { result ≡ manner_of self }

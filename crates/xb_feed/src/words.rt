@@ -1,7 +1,7 @@
 // What words of a command line ask for of a recording.
 ghost use Rattle.std.specs.Prelude.{◌≡◌, ◌∷◌, [], IfErr, IfOk, None, OnOk, Some, map, option_copied, option_map, true, unwrap_or};
 ghost use Rattle.xb_feed.specs.declared.words.TheConstants.{THRESHOLD_PERCENT};
-ghost use Rattle.xb_feed.specs.Options.{IsForAll, IsPercent, IsUnfit, Say, SayNothing, form_asked, form_named, form_suited, is_among, wire_added, wire_by, wire_of, wires_after, wires_in};
+ghost use Rattle.xb_feed.specs.Options.{IsForAll, IsPercent, IsUnfit, Say, SayNothing, any_rings, form_asked, form_named, form_suited, is_among, wire_added, wire_by, wire_of, wires_after, wires_in};
 ghost use Rattle.xb_text.specs.Pieces.{pieces, pieces_left};
 
 use crate::manner::AskedLine;
@@ -95,7 +95,7 @@ fn cut_name(text: &str) -> (&str, Option<&[u8]>)
 }
 
 const TOO_SHORT_FOR_A_BELL: &str =
-    "a make of a line that rings seizes it from 66 ms on: --seize or seize= is 66 or more";
+    "a make of a line that rings seizes it from 68 ms on: --seize or seize= is 68 or more";
 
 // The wire of a line, and how the line is listened to; what it does not say is as of all. Or why there is none.
 fn wire_by(all: Own, number: LineNo, text: &str) -> Result<(AskedLine, &str), &'static str>
@@ -279,10 +279,22 @@ fn said_of_all(words: &Words<'_>) -> Own
     }
 }
 
-/// What words ask for, where this holds for all lines; notes are asked for where edges may be lost too. Or why they ask for
-/// nothing: there is no such form or threshold, or another form than that of gpiomon where edges may be lost; or a word is
-/// no wire, names a line again, or has a word after a comma that is none, or is said twice, or rings where a make of under
-/// 66 ms seizes.
+// Whether some line rings.
+fn any_rings(lines: &[AskedLine]) -> bool
+    ensures { result ≡ any_rings lines.now }
+{
+    for line in lines {
+        if line.manner.ringing {
+            return true;
+        }
+    }
+    false
+}
+
+/// What words ask for, where this holds for all lines; notes are asked for where edges may be lost, or a line rings, too.
+/// Or why they ask for nothing: there is no such form or threshold, or another form than that of gpiomon where edges may
+/// be lost; or a word is no wire, names a line again, or has a word after a comma that is none, or is said twice, or rings
+/// where a make of under 68 ms seizes.
 pub fn request_of<'a, G: Drop>(
     alloc: Global,
     words: &Words<'a>,
@@ -306,6 +318,7 @@ pub fn request_of<'a, G: Drop>(
         Err(Answer::Unfit(misfit)) => return Err(Answer::Unfit(or_seize(words, misfit))),
         Err(answer) => return Err(answer),
     };
+    let rings = any_rings(&lines);
     Ok(Request {
         recording: words.text("RECORDING"),
         table: words.text("table"),
@@ -318,6 +331,6 @@ pub fn request_of<'a, G: Drop>(
             lossy,
         },
         common,
-        said: words.flag("bounces") || lossy,
+        said: words.flag("bounces") || lossy || rings,
     })
 }

@@ -2,7 +2,7 @@
 use Rattle.std.proofs.Common.{◌≡◌, ◌∙◌, ℕ, ◌+◌, ◌-◌, ◌≤◌, cond, Bool, true, false, List, [], ◌∷◌, ◌++◌, length, take, drop, min, refl, sym, ap, arith}
 use Rattle.std.specs.List.{slice_range}
 use Rattle.std.proofs.lemmas.List.{drop-take, length-take, take-append-drop, take-take, take_min}
-use Rattle.xb_findings.specs.declared.place.Place.{Place}
+use Rattle.xb_findings.specs.declared.table_places.Place.{Place}
 use Rattle.xb_findings.specs.Places.{first_place, is_same_end, next_place, place_after, place_of}
 use Rattle.xb_findings.specs.TextLines.{ends_line}
 
@@ -47,11 +47,6 @@ place_on text a b le =
     (sym (take-append-drop a (take b text)) ∙ ap (λ front. front ++ drop a (take b text)) (take-take a b text le)
     ∙ ap (λ rest. take a text ++ rest) back)
     ∙ place_after-append first_place (take a text) (take (b - a) (drop a text)))
-
--- the first place of a text
-pub place_first : (text : List ℕ) → first_place ≡ place_of text 0
-unfolding place_after
-place_first text = refl
 
 -- all bytes of a text, or so many of them
 pub place_min : (text : List ℕ) (at : ℕ) → place_of text (min at (length text)) ≡ place_of text at

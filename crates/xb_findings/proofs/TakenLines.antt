@@ -5,10 +5,10 @@ use Rattle.std.proofs.lemmas.Bool.{cond-true, cond-false, le-ltb}
 use Rattle.xb_deck.specs.declared.deck.TheConstants.{MOST_DECK_BYTES}
 use Rattle.xb_deck.specs.Deck.{deck_parts}
 use Rattle.xb_findings.specs.declared.finding.What.{What}
-use Rattle.xb_findings.specs.declared.kept.LineKind.TheVariants as kind
+use Rattle.xb_findings.specs.declared.kept_lines.LineKind.TheVariants as kind
 use Rattle.xb_keys.specs.declared.key.Key.{Key}
-use Rattle.xb_findings.specs.declared.lines.RowsPart.{RowsPart}
-use Rattle.xb_findings.specs.declared.lines.RowsPart.TheVariants as part
+use Rattle.xb_findings.specs.declared.row_lines.RowsPart.{RowsPart}
+use Rattle.xb_findings.specs.declared.row_lines.RowsPart.TheVariants as part
 use Rattle.xb_findings.specs.declared.records.Record.{Record}
 use Rattle.xb_findings.specs.DeckFaults.{faults_of_deck, faults_of_lines, faults_of_records, faults_of_rows, is_empty, what_of_header, what_of_record_line}
 use Rattle.xb_findings.specs.Kept.{Kept, first_at, firsts_of_records, kept_at, kept_of_lines, none_seen, seen_after, seen_of}

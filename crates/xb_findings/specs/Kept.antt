@@ -1,9 +1,9 @@
 -- Text lines of a deck of which more may be said once the whole deck is known.
 use Rattle.std.specs.Prelude.{ℕ, ◌+◌, ◌==◌, List, [], ◌∷◌, ◌++◌, Bool, true, false, if◌then◌else◌, Option, Some, None, slice_index_or}
 use Rattle.xb_deck.specs.Deck.{Parts, deck_parts}
-use Rattle.xb_findings.specs.declared.kept.KeptLine.{KeptLine}
-use Rattle.xb_findings.specs.declared.kept.LineKind.{LineKind}
-use Rattle.xb_findings.specs.declared.kept.LineKind.TheVariants as kind
+use Rattle.xb_findings.specs.declared.kept_lines.KeptLine.{KeptLine}
+use Rattle.xb_findings.specs.declared.kept_lines.LineKind.{LineKind}
+use Rattle.xb_findings.specs.declared.kept_lines.LineKind.TheVariants as kind
 use Rattle.xb_findings.specs.declared.records.Record.{Record}
 use Rattle.xb_findings.specs.declared.records.Record.TheVariants as read
 use Rattle.xb_findings.specs.DeckFaults.{is_empty}

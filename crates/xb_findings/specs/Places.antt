@@ -5,13 +5,13 @@ use Rattle.xb_deck.specs.Deck.{Parts, deck_parts}
 use Rattle.xb_findings.specs.declared.finding.What.{What}
 use Rattle.xb_findings.specs.declared.finding.What.TheVariants as what
 use Rattle.xb_keys.specs.declared.key.Key.{Key}
-use Rattle.xb_findings.specs.declared.place.Place.{Place}
-use Rattle.xb_findings.specs.declared.place.Reached.{Reached}
-use Rattle.xb_keys.specs.declared.spots.Mark.{Mark}
-use Rattle.xb_keys.specs.declared.spots.Mark.TheVariants as mark
-use Rattle.xb_keys.specs.declared.spots.Spot.{Spot}
-use Rattle.xb_keys.specs.declared.table.Section.{Section}
-use Rattle.xb_keys.specs.declared.table.Section.TheVariants as section
+use Rattle.xb_findings.specs.declared.table_places.Place.{Place}
+use Rattle.xb_findings.specs.declared.table_places.Reached.{Reached}
+use Rattle.xb_keys.specs.declared.key_places.Mark.{Mark}
+use Rattle.xb_keys.specs.declared.key_places.Mark.TheVariants as mark
+use Rattle.xb_keys.specs.declared.key_places.Spot.{Spot}
+use Rattle.xb_keys.specs.declared.sections.Section.{Section}
+use Rattle.xb_keys.specs.declared.sections.Section.TheVariants as section
 use Rattle.xb_findings.specs.Findings.{Found}
 use Rattle.xb_keys.specs.Spots.{spots_of}
 use Rattle.xb_findings.specs.Findings.{with_meant}

@@ -10,11 +10,11 @@ use Rattle.xb_routes.specs.declared.fault.RouteFault.TheVariants as fault
 use Rattle.xb_findings.specs.declared.finding.What.TheVariants as what
 use Rattle.xb_keys.specs.declared.key.Key.{Key}
 use Rattle.xb_keys.specs.declared.key.Key.TheVariants as key
-use Rattle.xb_keys.specs.declared.spots.Mark.{Mark}
-use Rattle.xb_keys.specs.declared.spots.Mark.TheVariants as mark
-use Rattle.xb_keys.specs.declared.spots.Spot.{Spot}
-use Rattle.xb_keys.specs.declared.table.Section.{Section}
-use Rattle.xb_keys.specs.declared.table.Section.TheVariants as section
+use Rattle.xb_keys.specs.declared.key_places.Mark.{Mark}
+use Rattle.xb_keys.specs.declared.key_places.Mark.TheVariants as mark
+use Rattle.xb_keys.specs.declared.key_places.Spot.{Spot}
+use Rattle.xb_keys.specs.declared.sections.Section.{Section}
+use Rattle.xb_keys.specs.declared.sections.Section.TheVariants as section
 use Rattle.xb_findings.specs.Findings.{Found}
 use Rattle.xb_keys.specs.Keys.{key_named, key_text}
 use Rattle.xb_findings.specs.NearCuts.{near_cuts}

@@ -1,8 +1,8 @@
 -- How text lines are taken, one after the other.
 use Rattle.std.specs.Prelude.{ℕ, ◌≡◌, ◌+◌, List, ◌∷◌, ◌++◌, map}
-use Rattle.xb_findings.specs.declared.lines.LinesRead.{LinesRead}
-use Rattle.xb_findings.specs.declared.lines.RowsPart.{RowsPart}
-use Rattle.xb_findings.specs.declared.lines.RowsPart.TheVariants as part
+use Rattle.xb_findings.specs.declared.row_lines.LinesRead.{LinesRead}
+use Rattle.xb_findings.specs.declared.row_lines.RowsPart.{RowsPart}
+use Rattle.xb_findings.specs.declared.row_lines.RowsPart.TheVariants as part
 use Rattle.xb_findings.specs.DeckFaults.{faults_of_lines, faults_of_records}
 use Rattle.xb_findings.specs.Findings.{Found}
 use Rattle.xb_findings.specs.Kept.{Kept, firsts_of_records, kept_line_of, kept_of_lines, seen_of}

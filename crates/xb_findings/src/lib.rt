@@ -24,22 +24,22 @@
 #![tactic(auto)]
 
 mod closes;
+mod fault_places;
 mod finding;
-mod kept;
+mod kept_lines;
 pub mod laws;
-mod lines;
 mod near_cuts;
-mod place;
 mod records;
+mod row_lines;
 mod separators;
-mod sites;
+mod table_places;
 mod tally;
 mod text_lines;
 
+pub use fault_places::push_fault;
 pub use finding::{Finding, What};
-pub use kept::{KeptLine, LineKind};
-pub use lines::{LinesRead, findings, read_lines};
+pub use kept_lines::{KeptLine, LineKind};
 pub use records::{push_found, without_key};
-pub use sites::push_fault;
+pub use row_lines::{LinesRead, findings, read_lines};
 pub use tally::{EACH_KIND, TOLD_OF_A_KIND, Tally};
 pub use text_lines::first_line;

@@ -1,3 +1,4 @@
+pub mod FaultTexts
 pub mod Flows
 pub mod Pauses
 pub mod Rings

@@ -24,6 +24,11 @@ pub enum Post {
 }
 
 impl fmt::Display for Post {
+    ghost use Rattle.std.specs.Prelude.{Some};
+    ghost use Rattle.xb_flow.specs.FaultTexts.{post_text};
+
+    ghost output = { λ post. Some (post_text post) };
+
     fn fmt<W: fmt::Write>(&self, f: &mut fmt::Formatter<W>) -> fmt::Result {
         match self {
             Post::Feed => f.write_str("feed"),

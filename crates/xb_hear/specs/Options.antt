@@ -1,8 +1,7 @@
 -- What the words of the command line ask for, as clap reads them.
-use Rattle.std.specs.Prelude.{ℕ, suc, ◌≡◌, List, Bool, true, false, Option, Some, None, codes, nat_lt, if◌then◌else◌, option_and_then, option_map}
+use Rattle.std.specs.Prelude.{ℕ, suc, ◌≡◌, List, Bool, true, false, Option, Some, None, codes, is_some, nat_lt, if◌then◌else◌, option_and_then, option_map}
 use Rattle.clap.specs.Walk.{Row, first_of}
 use Rattle.xb_command.specs.Given.{ReadsFlag, ReadsNumber, given_by}
-use Rattle.xb_hear.specs.declared.request.Asked.{Asked}
 use Rattle.xb_model.specs.declared.line.TheConstants.{LINES}
 use Rattle.xb_hear.specs.declared.request.Choice.TheVariants as choice
 use Rattle.xb_hear.specs.declared.request.ReportForm.{ReportForm}
@@ -13,7 +12,9 @@ use Rattle.xb_hear.specs.declared.words.Options.{Options}
 
 -- what clap matched says these options
 pub record Say (rows : List Row) (options : Options) : Type 0 where
-  pub deck : option_map (λ text. text.now) options.deck ≡ first_of (codes "DECK") rows
+  pub file : option_map (λ text. text.now) options.file ≡ first_of (codes "DECK") rows
+  pub recording : options.is_recording ≡ is_some (first_of (codes "wire") rows)
+  pub table : options.has_table ≡ is_some (first_of (codes "table") rows)
   pub line : ReadsNumber (given_by rows (codes "line")) options.line
   pub refused : ReadsFlag (given_by rows (codes "refused")) options.refused
   pub attempt : ReadsNumber (given_by rows (codes "attempt")) options.attempt
@@ -47,8 +48,3 @@ abbrev pub request_of : Options → Option Request
 request_of options =
     option_and_then (λ asked. asked_of options.line options.refused options.svg options.attempt asked)
     (form_of options.html options.json)
-
--- and of which deck
-abbrev pub asked_by : Options → Option Asked
-asked_by options =
-    option_map (λ request. record { deck = options.deck; request = request }) (request_of options)

@@ -145,22 +145,6 @@ fn attempt_object(
     attempt_of_parts(alloc, line, number, &attempt.outcome, &parts)
 }
 
-// Attempt `number` of a line, as a text line.
-fn attempt_line(
-    alloc: Global,
-    before: Option<u64>,
-    limits: Limits,
-    line: LineNo,
-    number: usize,
-    attempt: &HeardAttempt,
-) -> Result<String, AllocError>
-    ensures { IfOk result (λ text. string_bytes text
-        ≡ compact_text (attempt_object before limits line number (attempt_in attempt.now)) ++ codes "\n") }
-{
-    let object = attempt_object(alloc, before, limits, line, number, attempt)?;
-    line_of(alloc, &object)
-}
-
 // Puts attempt `number` of a line after the text, as a text line.
 fn push_object(
     alloc: Global,
@@ -174,7 +158,8 @@ fn push_object(
     ensures { OnOk result (string_bytes out.new ≡ string_bytes out.old
         ++ (compact_text (attempt_object before limits line number (attempt_in attempt.now)) ++ codes "\n")) }
 {
-    let text = attempt_line(alloc, before, limits, line, number, attempt)?;
+    let object = attempt_object(alloc, before, limits, line, number, attempt)?;
+    let text = line_of(alloc, &object)?;
     out.push_str(&text)
 }
 

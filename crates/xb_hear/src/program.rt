@@ -1,70 +1,126 @@
-// The program: its words and a deck in, a status and a report out.
-ghost use Rattle.std.specs.Prelude.{◌≡◌, true};
-ghost use Rattle.clap.specs.Faults.{is_simple_and_free};
+// The program: its words and a deck or a recording in, a status and a report out.
+ghost use Rattle.std.specs.Prelude.{◌≡◌, IfErr, IfOk};
+ghost use Rattle.xb_command.specs.Answers.{Takes};
 ghost use Rattle.xb_command.specs.Programs.{streams};
-ghost use Rattle.xb_command.specs.Tables.{command_by};
-ghost use Rattle.xb_command.specs.Works.{AttendsBy};
-ghost use Rattle.xb_hear.specs.Program.{by_hear};
+ghost use Rattle.xb_command.specs.Works.{IsWrong, Runs};
+ghost use Rattle.xb_hear.specs.Program.{HasFault, IsOfRecording, WritesReport, before_rows};
 
 use crate::deck_report::hear;
-use crate::request::Asked;
-use crate::words::{asked_by, options_of};
+use crate::request::{Asked, Recording, Request};
+use crate::words::{Options, options_of, request_of};
 use std::alloc::Global;
 use std::io::{Read, Write};
 use xb_command::{
-    Answer, Call, DONE, Files, NOTHING, Program, Source, Work, ask_words, tell_fault, text_source,
+    Answer, Call, DONE, Files, Given, NOTHING, Program, Source, Words, Work, file_source,
+    tell_fault, text_source,
 };
 
-impl<'a> Work<'a> for Asked<'a> {
+// Writes what is asked for of a deck, and returns the status of the process.
+fn answer<R: Read, W: Write, E: Write>(
+    alloc: Global,
+    request: Request,
+    program: &Program<'_>,
+    deck: &mut R,
+    out: &mut W,
+    err: &mut E,
+) -> u8
+    ensures { Runs (WritesReport request) (HasFault request program.now)
+        (streams (R.remaining deck.old) (W.contents out.old) (E.contents err.old))
+        (streams (R.remaining deck.new) (W.contents out.new) (E.contents err.new)) result }
+{
+    match hear(alloc, request, deck, out) {
+        Ok(()) => DONE,
+        Err(fault) => tell_fault(alloc, err, program.name, fault),
+    }
+}
+
+// What stands before the rows of a recording to make them a deck: its table was printed, or an empty one is cut off.
+fn before_rows(has_table: bool) -> &'static [u8]
+    ensures { result.now ≡ before_rows has_table }
+{
+    if has_table { b"" } else { b"---\n" }
+}
+
+// What the words ask for of a recording, if they name one.
+fn recording_of<'a, P: Work<'a>>(
+    alloc: Global,
+    call: &Call<'a>,
+    words: &Words<'a>,
+    options: Options<'a>,
+) -> Result<Option<Recording<P>>, Answer<'a>>
+    requires { Takes call.now words.now }
+    ensures asks { IfOk result (IsOfRecording P.rules call.now options.entry) }
+    ensures wrong { IfErr result (IsWrong P.rules.Misfits call.now) }
+{
+    if !options.is_recording {
+        return Ok(None);
+    }
+    match P::ask(alloc, call, words) {
+        Ok(printer) => Ok(Some(Recording {
+            printer,
+            has_table: options.has_table,
+        })),
+        Err(answer) => Err(answer),
+    }
+}
+
+impl<'a, P: Work<'a>> Work<'a> for Asked<'a, P> {
     ghost use Rattle.xb_hear.specs.Program.{by_hear};
 
-    ghost rules = { by_hear };
+    ghost rules = { by_hear P.rules };
 
-    fn ask(alloc: Global, call: &Call<'a>) -> Result<Asked<'a>, Answer<'a>> {
-        let words = match ask_words(alloc, call) {
-            Ok(words) => words,
-            Err(answer) => return Err(answer),
+    fn ask(alloc: Global, call: &Call<'a>, words: &Words<'a>) -> Result<Asked<'a, P>, Answer<'a>> {
+        let options = options_of(words);
+        let Some(request) = request_of(options) else {
+            return Err(Answer::Unfit(NOTHING));
         };
-        match asked_by(options_of(&words)) {
-            Some(asked) => Ok(asked),
-            None => Err(Answer::Unfit(NOTHING)),
+        match recording_of(alloc, call, words, options) {
+            Ok(recording) => Ok(Asked {
+                file: options.file,
+                request,
+                recording,
+            }),
+            Err(answer) => Err(answer),
         }
     }
 
     fn source(&self) -> Source<'a> {
-        text_source(self.deck)
-    }
-
-    fn run<F: Files, R: Read, W: Write, E: Write>(
-        self,
-        alloc: Global,
-        program: &Program<'a>,
-        _files: &F,
-        input: &mut R,
-        out: &mut W,
-        err: &mut E,
-    ) -> u8 {
-        match hear(alloc, self.request, input, out) {
-            Ok(()) => DONE,
-            Err(fault) => tell_fault(alloc, err, program.name, fault),
+        match self.recording {
+            Some(_) => file_source(self.file),
+            None => text_source(self.file),
         }
     }
-}
 
-/// Reads the words of the command line, and by them writes what was heard of a deck's lines, as a text, as a page or as
-/// JSON, or draws a line, as `hear` does. It returns the status of the process, as `attend` of `xb_command` says.
-pub fn attend<F: Files, R: Read, W: Write, E: Write>(
-    alloc: Global,
-    call: &Call<'_>,
-    files: &F,
-    input: &mut R,
-    out: &mut W,
-    err: &mut E,
-) -> u8
-    requires { is_simple_and_free (command_by call.now.program.now) ≡ true }
-    ensures { AttendsBy by_hear call.now (F.bytes files.now)
-        (streams (R.remaining input.old) (W.contents out.old) (E.contents err.old))
-        (streams (R.remaining input.new) (W.contents out.new) (E.contents err.new)) result }
-{
-    xb_command::attend::<Asked<'_>, F, R, W, E>(alloc, call, files, input, out, err)
+    fn run<F: Files, R: Read, W: Write, E: Write>(self, given: Given<'_, 'a, F, R, W, E>) -> u8 {
+        let Given {
+            alloc,
+            program,
+            input,
+            out,
+            err,
+            files,
+        } = given;
+        let Asked {
+            request,
+            recording,
+            ..
+        } = self;
+        let Some(Recording { printer, has_table }) = recording else {
+            return answer(alloc, request, program, input, out, err);
+        };
+        let mut rows = Vec::new(alloc);
+        let status = printer.run(Given {
+            input,
+            out: &mut rows,
+            err: &mut *err,
+            alloc,
+            program,
+            files,
+        });
+        if status != DONE {
+            return status;
+        }
+        let mut deck = before_rows(has_table).chain(rows.as_slice());
+        answer(alloc, request, program, &mut deck, out, err)
+    }
 }

@@ -33,11 +33,22 @@ pub enum Request {
     Picture(LineNo, Option<u32>),
 }
 
+/// A recording in place of a deck, whose rows a `P` prints.
+#[derive(Drop)]
+pub struct Recording<P> {
+    /// What prints its rows, and before them a route table, if one is named.
+    pub printer: P,
+    /// Whether a route table is named.
+    pub has_table: bool,
+}
+
 /// What the words ask for.
-#[derive(Clone, Copy, Drop)]
-pub struct Asked<'a> {
-    /// The file of the deck; without it, or with `-`, the input.
-    pub deck: Option<&'a str>,
+#[derive(Drop)]
+pub struct Asked<'a, P> {
+    /// The file of the deck, or of the recording; without it, or with `-`, the input.
+    pub file: Option<&'a str>,
     /// What is to be written.
     pub request: Request,
+    /// The recording, if the file is one.
+    pub recording: Option<Recording<P>>,
 }

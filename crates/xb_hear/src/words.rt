@@ -1,19 +1,24 @@
 // The words of the program, and what they ask for.
-ghost use Rattle.std.specs.Prelude.{◌≡◌, Some, false, option_map};
+ghost use Rattle.std.specs.Prelude.{◌≡◌, Some, false, is_some};
 ghost use Rattle.clap.specs.Walk.{first_of};
-ghost use Rattle.xb_hear.specs.Options.{Say, asked_by, asked_of, form_of, request_of};
+ghost use Rattle.xb_hear.specs.Options.{Say, asked_of, form_of, request_of};
 
-use crate::request::{Asked, Choice, ReportForm, Request};
+use crate::request::{Choice, ReportForm, Request};
 use xb_command::{FLAG, Program, Value, Word, Words};
+use xb_feed::{FORMAT, INVERTED, RATE, SETTLE, THRESHOLD, WIRE};
 use xb_model::{LINES, LineNo};
+
+// What each word of a recording wants beside it.
+const OF_A_RECORDING: &[&str] = &["wire"];
 
 /// The program and its words.
 pub const PROGRAM: Program<'static> = Program {
     name: "mfhear",
-    about: "Says what a register heard of each line of a deck, and where in the recording: the attempts, the digits with
+    about: "Says what a register heard of each line of a deck or a recording, and where in it: the attempts, the digits with
 their pulses a second, percent break, breaks, makes and pause, what spoiled a digit, and how each attempt ended.
 
     mfhear spoiled.deck --line 52
+    mfhear bounced.vcd --wire 7=2
     mfhear spoiled.deck --line 52 --svg > line_52.svg
     mfhear spoiled.deck --html > spoiled.html
     mfhear spoiled.deck --json | jq -r 'select(.reason == \"MUTILATED\") | .line'
@@ -24,7 +29,7 @@ where the reader of the output goes away.",
         Word {
             name: "DECK",
             value: Value::MayStand,
-            help: "the deck, a file; without it, or with -, standard input",
+            help: "the deck, or with --wire a recording, a file; without it, or with -, standard input",
             ..FLAG
         },
         Word {
@@ -67,6 +72,40 @@ where the reader of the output goes away.",
             help: "this attempt alone in the picture, else the first 20",
             ..FLAG
         },
+        Word {
+            help: "the file is a recording, of which mfloop makes a deck: line N of the office is the wire of this
+        name, or number; once for each line. After the name may stand ,inverted and ,settle=MS and ,seize=MS and
+        ,ringing, which hold for this line alone",
+            ..WIRE
+        },
+        Word {
+            name: "table",
+            value: Value::Text,
+            shown: "FILE",
+            wants: OF_A_RECORDING,
+            help: "the route table of this file, whose limits hold; else the standard ones",
+            ..FLAG
+        },
+        Word {
+            wants: OF_A_RECORDING,
+            ..FORMAT
+        },
+        Word {
+            wants: OF_A_RECORDING,
+            ..RATE
+        },
+        Word {
+            wants: OF_A_RECORDING,
+            ..SETTLE
+        },
+        Word {
+            wants: OF_A_RECORDING,
+            ..THRESHOLD
+        },
+        Word {
+            wants: OF_A_RECORDING,
+            ..INVERTED
+        },
     ],
     reads: Some(&["DECK"]),
     writes_sound: false,
@@ -76,7 +115,10 @@ where the reader of the output goes away.",
 // What the words say.
 #[derive(Clone, Copy)]
 pub(crate) struct Options<'a> {
-    pub(crate) deck: Option<&'a str>,
+    pub(crate) file: Option<&'a str>,
+    // Whether the file is a recording, and a route table is named for it.
+    pub(crate) is_recording: bool,
+    pub(crate) has_table: bool,
     pub(crate) line: Option<u32>,
     pub(crate) refused: bool,
     pub(crate) attempt: Option<u32>,
@@ -85,12 +127,21 @@ pub(crate) struct Options<'a> {
     pub(crate) json: bool,
 }
 
+// Whether a word was given a text.
+fn is_given(words: &Words<'_>, name: &str) -> bool
+    ensures { result ≡ is_some (first_of name.now words.now) }
+{
+    words.text(name).is_some()
+}
+
 // What the words say.
 pub(crate) fn options_of<'a>(words: &Words<'a>) -> Options<'a>
     ensures { Say words.now result }
 {
     Options {
-        deck: words.text("DECK"),
+        file: words.text("DECK"),
+        is_recording: is_given(words, "wire"),
+        has_table: is_given(words, "table"),
         line: words.number("line"),
         refused: words.flag("refused"),
         attempt: words.number("attempt"),
@@ -131,7 +182,7 @@ fn of_line(number: u32, svg: bool, attempt: Option<u32>, form: ReportForm) -> Op
 
 // What the options ask for; `None` where they name no line of the office, a line and refused ones too, a picture
 // without its line, an attempt without a picture, or two of a picture, a page and objects.
-fn request_of(options: Options<'_>) -> Option<Request>
+pub(crate) fn request_of(options: Options<'_>) -> Option<Request>
     ensures { result ≡ request_of options.entry }
 {
     let form = form_of(options.html, options.json)?;
@@ -141,15 +192,4 @@ fn request_of(options: Options<'_>) -> Option<Request>
         (Some(number), false, svg, attempt) => of_line(number, svg, attempt, form),
         (None, _, true, _) | (None, _, false, Some(_)) | (Some(_), true, _, _) => None,
     }
-}
-
-// What the options ask for, and of which deck.
-pub(crate) fn asked_by<'a>(options: Options<'a>) -> Option<Asked<'a>>
-    ensures { result ≡ asked_by options.entry }
-{
-    let request = request_of(options)?;
-    Some(Asked {
-        deck: options.deck,
-        request,
-    })
 }

@@ -8,3 +8,4 @@ pub mod Numbers
 pub mod Alternation
 pub mod JoinedAfter
 pub mod TakenRows
+pub mod Periods

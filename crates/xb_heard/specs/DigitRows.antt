@@ -1,12 +1,11 @@
 -- What is said of a digit, as values.
 use Rattle.std.specs.Prelude.{ℕ, ◌%◌, Bool, true, false, Option, Some, None}
 use Rattle.xb_model.specs.declared.signal.TheConstants.{MOST_PULSES}
-use Rattle.xb_model.specs.Records.{is_break, is_make}
+use Rattle.xb_model.specs.declared.row.Contact.TheVariants.{Make, Brk}
 use Rattle.xb_heard.specs.declared.fault.Spoiler.{Spoiler}
 use Rattle.xb_heard.specs.declared.row.DigitRow.{DigitRow}
 use Rattle.xb_heard.specs.declared.row.Remark.{Remark}
 use Rattle.xb_heard.specs.declared.row.Remark.TheVariants.{Good, Spoiled, Ignored}
-use Rattle.xb_heard.specs.PlacedRuns.{run_in}
 use Rattle.xb_heard.specs.Figures.{extent_from, percent_of, speed_of, times_of}
 use Rattle.xb_heard.specs.Digits.{DigitOfRuns}
 
@@ -28,8 +27,8 @@ row_of taken digit = record {
   pulses = (times_of digit.pulses).breaks;
   speed = speed_of digit.pulses;
   share = percent_of digit.pulses;
-  breaks = extent_from (λ run. is_break (run_in run)) None digit.pulses;
-  makes = extent_from (λ run. is_make (run_in run)) None digit.pulses;
+  breaks = extent_from Brk None digit.pulses;
+  makes = extent_from Make None digit.pulses;
   pause = digit.pause.ms;
   remark = remark_of taken digit.spoiler;
 }

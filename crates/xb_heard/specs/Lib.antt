@@ -2,6 +2,7 @@ pub mod PlacedRuns
 pub mod Parts
 pub mod Faults
 pub mod Figures
+pub mod PeriodLaws
 pub mod Digits
 pub mod DigitRows
 pub mod Outcomes

@@ -3,7 +3,7 @@ use Rattle.std.specs.Prelude.{◌≡◌, ℕ, List, [], ◌∷◌, ◌++◌, map
 use Rattle.xb_model.specs.declared.row.Contact.TheVariants.{Make, Brk}
 use Rattle.xb_model.specs.declared.plan.Plan.TheVariants.{Seven}
 use Rattle.xb_model.specs.LawfulLimits.{standard_limits}
-use Rattle.xb_model.specs.Records.{Run, make, break, is_break}
+use Rattle.xb_model.specs.Records.{Run, make, break}
 use Rattle.xb_model.specs.WorkedRows.{close, pulses, dial, rows_on}
 use Rattle.xb_heard.specs.declared.run.PlacedRun.{PlacedRun}
 use Rattle.xb_heard.specs.declared.fault.PulseFault.TheVariants.{ShortBreak, LongBreak, ShortMake, TooManyPulses}
@@ -65,6 +65,6 @@ pub record WorkedFigures : Type 0 where
   pub rounded_percent : percent_of (train_of_runs (break 57 ∷ make 40 ∷ break 60 ∷ [])) ≡ Some 588
   pub half_up : percent_of (train_of_runs (break 41 ∷ make 359 ∷ break 60 ∷ [])) ≡ Some 103
   pub single : speed_of (train_of_runs (break 60 ∷ [])) ≡ None
-  pub breaks : extent_from (λ run. is_break (run_in run)) None
+  pub breaks : extent_from Brk None
       (train_of_runs (break 60 ∷ make 40 ∷ break 58 ∷ make 44 ∷ break 61 ∷ []))
       ≡ Some (record { least = 58; most = 61 })

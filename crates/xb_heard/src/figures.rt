@@ -1,14 +1,14 @@
 // The figures of a train.
 ghost use Rattle.std.specs.Prelude.{◌≡◌, ◌+◌, ◌-◌, ◌*◌, ◌<◌, ◌≤◌, ◌^◌, None, length, take};
-ghost use Rattle.xb_model.specs.Records.{is_break, is_make};
-ghost use Rattle.xb_heard.specs.PlacedRuns.{run_in};
-ghost use Rattle.xb_heard.specs.Figures.{extent_from, percent_of, quotient_of, speed_of, times_of, whole_periods, wider, with_run};
+ghost use Rattle.xb_heard.specs.Figures.{extent_from, percent_of, quotient_of, share_by, speed_by, speed_of, times_of, whole_periods};
+ghost use Rattle.xb_heard.specs.Figures.{wider, with_run};
 
+use crate::joining::same_contact;
 use crate::run::PlacedRun;
 use xb_model::Contact;
 
 /// So many runs are a train of which no share of breaks is given.
-pub const MANY_RUNS: usize = 4_294_967_296;
+pub(crate) const MANY_RUNS: usize = 4_294_967_296;
 
 /// The shortest and the longest of some runs, in ms.
 #[derive(Clone, Copy, Debug, PartialEq, Eq)]
@@ -30,26 +30,6 @@ pub struct Times {
     pub all_ms: u128,
 }
 
-// Whether a run is a break.
-fn is_break(run: &PlacedRun) -> bool
-    ensures { result ≡ is_break (run_in run.now) }
-{
-    match run.contact {
-        Contact::Brk => true,
-        Contact::Make | Contact::Close => false,
-    }
-}
-
-// Whether a run is a make.
-fn is_make(run: &PlacedRun) -> bool
-    ensures { result ≡ is_make (run_in run.now) }
-{
-    match run.contact {
-        Contact::Make => true,
-        Contact::Brk | Contact::Close => false,
-    }
-}
-
 // The times of runs and one more.
 fn with_run(run: &PlacedRun, times: Times) -> Times
     requires breaks { times.breaks + 1 < 2 ^ 64 }
@@ -66,7 +46,7 @@ fn with_run(run: &PlacedRun, times: Times) -> Times
         all_ms,
     } = times;
     let ms = u128::from(run.ms);
-    if is_break(run) {
+    if same_contact(run.contact, Contact::Brk) {
         Times {
             breaks: breaks + 1,
             open_ms: open_ms + ms,
@@ -99,17 +79,37 @@ pub fn times_of(runs: &[PlacedRun]) -> Times
     times
 }
 
-// A quotient in tenths, a half rounded up.
-fn quotient_of(number: u128, divisor: u128) -> Option<u128>
-    requires number { number < 2 ^ 100 * 1000 }
-    requires divisor { divisor < 2 ^ 126 }
+// Twice as much has no room.
+const MOST_DIVISOR: u128 = (1 << 127) - 1;
+
+/// A quotient in tenths, a half rounded up; `None` by 0.
+pub fn quotient_of(number: u128, divisor: u128) -> Option<u128>
+    requires { number < 2 ^ 120 }
     ensures { result ≡ quotient_of number divisor }
 {
     if divisor == 0 {
         None
+    } else if divisor > MOST_DIVISOR {
+        Some(0)
     } else {
         Some((20 * number + divisor) / (2 * divisor))
     }
+}
+
+/// Pulses a second in tenths: so many whole periods in so many ms; `None` of 0 ms.
+pub fn speed_by(periods: u128, ms: u128) -> Option<u128>
+    requires { periods < 2 ^ 110 }
+    ensures { result ≡ speed_by periods ms }
+{
+    quotient_of(1000 * periods, ms)
+}
+
+/// How much of a time is break, in tenths of a percent; `None` of no time.
+pub fn share_by(broken: u128, all: u128) -> Option<u128>
+    requires { broken < 2 ^ 110 }
+    ensures { result ≡ share_by broken all }
+{
+    quotient_of(100 * broken, all)
 }
 
 // The runs of a train before its last break.
@@ -121,23 +121,23 @@ fn whole_periods(train: &[PlacedRun]) -> &[PlacedRun]
 
 /// Pulses a second of a train, in tenths, by the runs before its last break; `None` of a single
 /// pulse.
-pub fn speed_of(train: &[PlacedRun]) -> Option<u128>
+pub(crate) fn speed_of(train: &[PlacedRun]) -> Option<u128>
     ensures { result ≡ speed_of train.now }
 {
     let whole = times_of(whole_periods(train));
-    quotient_of(1000 * u128::from(whole.breaks), whole.all_ms)
+    speed_by(u128::from(whole.breaks), whole.all_ms)
 }
 
 /// How much of the time of a train is break, in tenths of a percent, by the runs before its last
 /// break; `None` of a single pulse, and of a train of `MANY_RUNS` or more, which no deck has.
-pub fn percent_of(train: &[PlacedRun]) -> Option<u128>
+pub(crate) fn percent_of(train: &[PlacedRun]) -> Option<u128>
     ensures { result ≡ percent_of train.now }
 {
     if train.len() >= MANY_RUNS {
         return None;
     }
     let whole = times_of(whole_periods(train));
-    quotient_of(100 * whole.open_ms, whole.all_ms)
+    share_by(whole.open_ms, whole.all_ms)
 }
 
 // The shortest and the longest of some runs and one more.
@@ -156,26 +156,13 @@ fn wider(extent: Option<Extent>, ms: u64) -> Option<Extent>
     }
 }
 
-/// The shortest and the longest break of a train.
-pub fn breaks_of(train: &[PlacedRun]) -> Option<Extent>
-    ensures { result ≡ extent_from (λ run. is_break (run_in run)) None train.now }
+/// The shortest and the longest of a train's runs of a contact: its breaks, or the makes between two pulses.
+pub(crate) fn extent_of(train: &[PlacedRun], contact: Contact) -> Option<Extent>
+    ensures { result ≡ extent_from contact None train.now }
 {
     let mut extent = None;
     for run in train {
-        if is_break(run) {
-            extent = wider(extent, run.ms);
-        }
-    }
-    extent
-}
-
-/// The shortest and the longest make between two pulses of a train.
-pub fn makes_of(train: &[PlacedRun]) -> Option<Extent>
-    ensures { result ≡ extent_from (λ run. is_make (run_in run)) None train.now }
-{
-    let mut extent = None;
-    for run in train {
-        if is_make(run) {
+        if same_contact(run.contact, contact) {
             extent = wider(extent, run.ms);
         }
     }

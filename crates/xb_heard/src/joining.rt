@@ -10,8 +10,8 @@ use crate::run::PlacedRun;
 use std::alloc::AllocError;
 use xb_model::{Contact, Row};
 
-// Whether two contacts are the same.
-fn same_contact(one: Contact, other: Contact) -> bool
+/// Whether two contacts are the same.
+pub(crate) fn same_contact(one: Contact, other: Contact) -> bool
     ensures { result ≡ same_contact one other }
 {
     match (one, other) {

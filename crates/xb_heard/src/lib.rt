@@ -9,8 +9,8 @@
 //! - A digit names a spoiler exactly where a run of it is out of its limits or it has over ten breaks, and what
 //!   is named is true, and the first (`NamesItsFault`). That is exactly where the chain takes it for mutilated
 //!   (`laws::mutilated_is_named`).
-//! - `row_of`: the figures of a digit; quotients are in tenths, a half rounded up, by the runs before the last
-//!   break.
+//! - `row_of`: the figures of a digit, each a quotient in tenths, a half rounded up. The speed and the share of break go
+//!   by whole periods, the runs before the last break (`laws::figures_go_by_whole_periods`).
 #![tactic(auto)]
 
 mod attempt;
@@ -28,7 +28,8 @@ mod run;
 pub use attempt::HeardAttempt;
 pub use digit::HeardDigit;
 pub use fault::{PulseFault, Spoiler, fault_at};
-pub use figures::{Extent, MANY_RUNS, Times, breaks_of, makes_of, percent_of, speed_of, times_of};
+pub use figures::{Extent, Times, quotient_of, share_by, speed_by, times_of};
+pub use outcome::breaks_among;
 pub use report::{heard_of, runs_by_line, runs_of_line};
 pub use row::{DigitRow, Remark, row_of};
 pub use run::PlacedRun;

@@ -1,7 +1,5 @@
 // What came of an attempt.
 ghost use Rattle.std.specs.Prelude.{◌≡◌, ◌<◌, ◌≤◌, length, map};
-ghost use Rattle.xb_model.specs.Numbers.{reaches};
-ghost use Rattle.xb_model.specs.Plans.{plan_len};
 ghost use Rattle.xb_model.specs.Records.{is_break};
 ghost use Rattle.xb_heard.specs.PlacedRuns.{run_in};
 ghost use Rattle.xb_heard.specs.Digits.{digit_in};
@@ -10,7 +8,7 @@ ghost use Rattle.xb_heard.specs.Outcomes.{outcome_by, refused, value_of, values_
 
 use crate::digit::HeardDigit;
 use crate::run::PlacedRun;
-use xb_model::{Contact, Dialled, Digit, MOST_PULSES, NumberDigits, Plan, Reason, plan_len};
+use xb_model::{Contact, Dialled, Digit, MOST_PULSES, NumberDigits, Plan, Reason, is_reached};
 
 // Whether a run is a break.
 fn is_break(run: &PlacedRun) -> bool
@@ -22,8 +20,8 @@ fn is_break(run: &PlacedRun) -> bool
     }
 }
 
-// How many breaks a train has.
-fn breaks_among(train: &[PlacedRun]) -> usize
+/// How many breaks a train has.
+pub fn breaks_among(train: &[PlacedRun]) -> usize
     ensures { result ≡ breaks_among train.now }
 {
     train.iter().filter(|run| is_break(run)).count()
@@ -39,17 +37,6 @@ fn value_of(digit: &HeardDigit) -> Option<Digit>
             Digit::new((breaks % most) as u8)
         }
         _ => None,
-    }
-}
-
-// Whether the digits are as many as their number has.
-fn is_reached(plan: Plan, digits: &NumberDigits) -> bool
-    ensures { result ≡ reaches (plan_len plan digits.now) (length digits.now) }
-{
-    let digits = digits.digits();
-    match plan_len(plan, digits) {
-        Some(len) => usize::from(len) <= digits.len(),
-        None => false,
     }
 }
 
@@ -71,7 +58,7 @@ pub(crate) fn outcome_of(plan: Plan, digits: &[HeardDigit], timed: bool) -> Dial
             return refused(Reason::Mutilated, &good);
         };
         good.push(value);
-        if is_reached(plan, &good) {
+        if is_reached(plan, good.digits()) {
             return Dialled::Number(good);
         }
     }

@@ -5,8 +5,8 @@ ghost use Rattle.xb_heard.specs.DigitRows.{name_of, remark_of, row_of};
 
 use crate::digit::HeardDigit;
 use crate::fault::Spoiler;
-use crate::figures::{Extent, breaks_of, makes_of, percent_of, speed_of, times_of};
-use xb_model::MOST_PULSES;
+use crate::figures::{Extent, extent_of, percent_of, speed_of, times_of};
+use xb_model::{Contact, MOST_PULSES};
 
 /// What is said of a digit beside its figures.
 #[derive(Clone, Copy, Debug, PartialEq, Eq)]
@@ -71,8 +71,8 @@ pub fn row_of(digit: &HeardDigit, taken: bool) -> DigitRow
         pulses,
         speed: speed_of(digit.pulses),
         share: percent_of(digit.pulses),
-        breaks: breaks_of(digit.pulses),
-        makes: makes_of(digit.pulses),
+        breaks: extent_of(digit.pulses, Contact::Brk),
+        makes: extent_of(digit.pulses, Contact::Make),
         pause: digit.pause.ms,
         remark: remark_of(taken, digit.spoiler),
     }

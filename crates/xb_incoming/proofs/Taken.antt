@@ -5,7 +5,8 @@ use Rattle.std.specs.Prelude.{if◌then◌else◌}
 use Rattle.std.proofs.lemmas.List.Sums.{fold-append}
 use Rattle.xb_model.specs.declared.dialled.Dialled.{Dialled}
 use Rattle.xb_model.specs.declared.reason.Reason.TheVariants.{Mutilated, Abandoned, TimedOut}
-use Rattle.xb_model.specs.Image.{Machine, image_from}
+use Rattle.xb_model.specs.Image.{image_from}
+use Rattle.xb_model.proofs.Images.{image_from-append}
 use Rattle.xb_incoming.specs.declared.key.Symbol.{Symbol}
 use Rattle.xb_incoming.specs.declared.key.Symbol.TheVariants.{Digit, Kp, St, Other}
 use Rattle.xb_incoming.specs.declared.key.TimedKey.{TimedKey}
@@ -17,13 +18,6 @@ use Rattle.xb_incoming.specs.declared.register.Register.{Register}
 use Rattle.xb_incoming.specs.Attempts.{deaf_from, digits_at, digits_from, ending_at, ending_from, is_clear, number_of, outcomes, outcomes_after, refused, taken_at, taken_from, times_out}
 use Rattle.xb_incoming.specs.Machine.{HasTaken, at_end, enter, listen, machine, next, opened, outs, phase_after, refuse, told_by}
 use Rattle.xb_incoming.proofs.Packed.{packed, packed-more, packed-number}
-
-pub image_from-append : {I O S : Type 0} (m : Machine I O S) (s : S) (xs ys : List I)
-    → image_from m s (xs ++ ys) ≡ image_from m s xs ++ image_from m (fold m.next s xs) ys
-image_from-append m s [] ys = refl
-image_from-append m s (x ∷ xs) ys =
-    ap (λ rest. m.outs s x ++ rest) (image_from-append m (m.next s x) xs ys)
-    ∙ sym (append_assoc (m.outs s x) (image_from m (m.next s x) xs) (image_from m (fold m.next (m.next s x) xs) ys))
 
 -- all that is told of keys and their end, from a phase on
 abbrev pub told_from : ℕ → Phase → List TimedKey → List Dialled

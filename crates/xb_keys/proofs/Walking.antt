@@ -3,7 +3,7 @@ use Rattle.std.proofs.Common.{◌≡◌, ◌∙◌, ℕ, zero, suc, true, false,
 use Rattle.std.specs.Prelude.{◌==◌}
 use Rattle.std.proofs.lemmas.Bool.{cond-true, cond-false}
 use Rattle.toml_parser.specs.Lexical.{skip_blank}
-use Rattle.xb_keys.specs.declared.table.Section.{Section}
+use Rattle.xb_keys.specs.declared.sections.Section.{Section}
 use Rattle.xb_keys.specs.declared.walk.Want.TheVariants as want
 use Rattle.xb_keys.specs.Spots.{Walk, after_turn, before_value, key_turn, turn, turn_by, value_turn, walked}
 

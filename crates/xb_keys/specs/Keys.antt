@@ -3,8 +3,8 @@ use Rattle.std.specs.Prelude.{ℕ, nat_eq, nat_le, List, [], ◌∷◌, codes, l
 use Rattle.strsim.specs.Edits.{levenshtein_row}
 use Rattle.xb_keys.specs.declared.key.Key.{Key}
 use Rattle.xb_keys.specs.declared.key.Key.TheVariants as key
-use Rattle.xb_keys.specs.declared.table.Section.{Section}
-use Rattle.xb_keys.specs.declared.table.Section.TheVariants as section
+use Rattle.xb_keys.specs.declared.sections.Section.{Section}
+use Rattle.xb_keys.specs.declared.sections.Section.TheVariants as section
 
 -- a key as it is written
 abbrev pub key_text : Key → List ℕ

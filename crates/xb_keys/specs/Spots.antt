@@ -6,11 +6,11 @@ use Rattle.toml_parser.specs.Lexical.{Read, first, skip_blank, skip_ws}
 use Rattle.toml_parser.specs.Numbers.{unquoted}
 use Rattle.toml_parser.specs.Strings.{Key as DottedKey, quoted, starts_string}
 use Rattle.xb_keys.specs.declared.key.Key.{Key}
-use Rattle.xb_keys.specs.declared.spots.Mark.{Mark}
-use Rattle.xb_keys.specs.declared.spots.Mark.TheVariants as mark
-use Rattle.xb_keys.specs.declared.spots.Spot.{Spot}
-use Rattle.xb_keys.specs.declared.table.Section.{Section}
-use Rattle.xb_keys.specs.declared.table.Section.TheVariants as section
+use Rattle.xb_keys.specs.declared.key_places.Mark.{Mark}
+use Rattle.xb_keys.specs.declared.key_places.Mark.TheVariants as mark
+use Rattle.xb_keys.specs.declared.key_places.Spot.{Spot}
+use Rattle.xb_keys.specs.declared.sections.Section.{Section}
+use Rattle.xb_keys.specs.declared.sections.Section.TheVariants as section
 use Rattle.xb_keys.specs.declared.walk.Nest.{Nest}
 use Rattle.xb_keys.specs.declared.walk.Nest.TheVariants as nest
 use Rattle.xb_keys.specs.declared.walk.Want.{Want}

@@ -2,7 +2,7 @@
 ghost use Rattle.std.specs.Prelude.{◌≡◌, IfOk};
 ghost use Rattle.xb_keys.specs.Keys.{edits, first_within, key_named, key_text, keys_of, nearest};
 
-use crate::table::Section;
+use crate::sections::Section;
 use std::alloc::{AllocError, Global};
 use strsim::generic_levenshtein;
 

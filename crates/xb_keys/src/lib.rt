@@ -10,11 +10,11 @@
 #![tactic(auto)]
 
 mod key;
-mod spots;
-mod table;
+mod key_places;
+mod sections;
 mod walk;
 
 pub use key::{Key, key_named};
-pub use spots::{Mark, Spot};
-pub use table::{Section, is_bare, is_blank, is_heading, squeezed, without_mark};
+pub use key_places::{Mark, Spot};
+pub use sections::{Section, is_bare, is_blank, is_heading, squeezed, without_mark};
 pub use walk::spots_of;

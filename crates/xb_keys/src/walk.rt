@@ -5,8 +5,8 @@ ghost use Rattle.toml_parser.specs.Lexical.{first};
 ghost use Rattle.xb_keys.specs.Spots as spec;
 ghost use Rattle.xb_keys.specs.Walks.{walk_of};
 
-use crate::spots::{Mark, Spot, parts_of, push_parts, read_heading, read_key_equals};
-use crate::table::{Section, without_mark};
+use crate::key_places::{Mark, Spot, parts_of, push_parts, read_heading, read_key_equals};
+use crate::sections::{Section, without_mark};
 use std::alloc::{AllocError, Global};
 use toml_parser::text::{first, skip, skip_blank, skip_ws};
 use toml_parser::{ParseError, quoted, starts_string, unquoted};

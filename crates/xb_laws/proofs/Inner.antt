@@ -5,7 +5,7 @@ use Rattle.std.proofs.lemmas.Bool.{cases_lt}
 use Rattle.std.proofs.lemmas.Int.{ints}
 use Rattle.std.proofs.lemmas.Nat.{mul-le}
 use Rattle.xb_ear.proofs.Voltages.{distributes, square-is}
-use Rattle.xb_laws.proofs.Rings.{neg-times, nothing-times, regroup}
+use Rattle.xb_ear.proofs.Products.{neg-times, nothing-times, regroup}
 use Rattle.xb_laws.proofs.Sums.{sum, sum-agrees, sum-both, sum-times}
 
 abbrev pub inner : (ℕ → ℤ) → (ℕ → ℤ) → ℤ

@@ -14,7 +14,6 @@ pub mod Registered
 pub mod Dialled
 pub mod Network
 pub mod Worked
-pub mod Rings
 pub mod Sums
 pub mod Inner
 pub mod Triangles

@@ -1,5 +1,5 @@
 -- What orders key.
-use Rattle.std.proofs.Common.{◌≡◌, ◌∙◌, ℕ, zero, suc, Bool, true, false, ◌&&◌, List, [], ◌∷◌, ◌++◌, map, drop, length, sym, refl, Option, Some, None}
+use Rattle.std.proofs.Common.{◌≡◌, ◌∙◌, ℕ, Bool, true, false, ◌&&◌, List, [], ◌∷◌, ◌++◌, map, length, sym, Option, Some, None}
 use Rattle.std.specs.Prelude.{if◌then◌else◌, nat_le, nat_lt}
 use Rattle.std.specs.List.{AllByRecursion, filter, flat_map}
 use Rattle.std.proofs.lemmas.List.Folds.{flat_map-map}
@@ -12,10 +12,10 @@ use Rattle.xb_model.specs.declared.order.Order.{Order}
 use Rattle.xb_model.specs.declared.order.Order.TheVariants.{Key, Refused}
 use Rattle.xb_model.specs.declared.reason.Reason.TheVariants.{Unknown}
 use Rattle.xb_model.specs.Keyings.{marks_of, tone}
-use Rattle.xb_model.specs.Routing.{CodedRoute, covers, longer_of, longest_of, order_by, order_of, route_for}
+use Rattle.xb_model.specs.Routing.{CodedRoute, covers, longer_of, longest_of, order_of, route_for}
 use Rattle.xb_sound.specs.HeardKeys.{AreKeyed}
 use Rattle.xb_sound.specs.HeardTapes.{AreDigits, HavePrefixes}
-use Rattle.xb_sound.proofs.HeardMarks.{digits_are_keyed}
+use Rattle.xb_sound.proofs.TapeKeys.{IfPrefix, order-keyed}
 use Rattle.xb_incoming.specs.Attempts.{capped, number_of}
 use Rattle.xb_laws.specs.Tandem.{keyed_by, keyed_of}
 
@@ -55,10 +55,6 @@ numbers-digits (Key trunk digits ∷ orders) keyed =
 numbers-digits (Refused reason heard ∷ orders) keyed = numbers-digits orders keyed.1
 
 -- a route that is found puts digits in front
-abbrev IfPrefix : Option CodedRoute → Type 0
-IfPrefix None = Unit {0}
-IfPrefix (Some route) = AreDigits route.prefixed
-
 longest-prefix : (test : CodedRoute → Bool) (routes : List CodedRoute) → HavePrefixes routes
     → IfPrefix (longest_of (filter test routes))
 longest-prefix test [] all = tt
@@ -76,22 +72,6 @@ longest-prefix test (route ∷ routes) all = by (test route) (longest-prefix tes
         → IfPrefix (longest_of (if b then route ∷ filter test routes else filter test routes))
     by true later = of-two (longest_of (filter test routes)) later
     by false later = later
-
-both-digits : (xs ys : List ℕ) → AreDigits xs → AreDigits ys → AreDigits (xs ++ ys)
-both-digits [] ys x y = y
-both-digits (d ∷ xs) ys x y = (x.0, both-digits xs ys x.1 y)
-
-drop-digits : (n : ℕ) (xs : List ℕ) → AreDigits xs → AreDigits (drop n xs)
-drop-digits zero xs all = all
-drop-digits (suc n) [] all = tt
-drop-digits (suc n) (x ∷ xs) all = drop-digits n xs all.1
-
-order-keyed : (route : Option CodedRoute) (digits : List ℕ) → IfPrefix route → AreDigits digits
-    → AreKeyed (marks_of (order_by route digits))
-order-keyed None digits is all = (tt, tt)
-order-keyed (Some route) digits is all =
-    let keyed = both-digits route.prefixed (drop route.deleted digits) is (drop-digits route.deleted digits all) in
-    (tt, ((tt, refl), digits_are_keyed (route.prefixed ++ drop route.deleted digits) keyed))
 
 number-keyed : (routes : List CodedRoute) → HavePrefixes routes → (digits : List ℕ) → AreDigits digits
     → AreKeyed (marks_of (order_of routes (number_of digits)))

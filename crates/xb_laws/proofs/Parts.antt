@@ -21,7 +21,7 @@ use Rattle.xb_ear.proofs.Runs.{Gives, HasArrived, quiet-edge, stays}
 use Rattle.xb_ear.proofs.Segments.{AreMatched, Within, all-in-range, between, part-turns, part_of, range-split, sees, sees-part}
 use Rattle.xb_ear.proofs.Shown.{still}
 use Rattle.xb_ear.proofs.Steps.{Known, after_all, gives_all, known, known-next, pair_heard, pairs-heard}
-use Rattle.xb_ear.proofs.Windows.{image_from-append}
+use Rattle.xb_model.proofs.Images.{image_from-append}
 use Rattle.xb_laws.proofs.Sounding.{FirstLasts, IsOpen, IsOrderly, Lasts, all-counted, first-lasts, tone-lasts}
 use Rattle.xb_laws.proofs.Places.{AreMore, first_within, none-more, one-more, past_within}
 

@@ -1,8 +1,7 @@
 -- Where the keys of a sound are heard: each begins with its tone, and ends with it, to a window.
-use Rattle.std.proofs.Common.{◌≡◌, ◌∙◌, ℕ, ◌+◌, ◌-◌, ◌*◌, ◌≤◌, List, [], ◌∷◌, ◌++◌, map, fold, length, sym, ap, subst, arith, refl, ℤ, pos, Option, Some, None, inl, append_assoc, length-append}
+use Rattle.std.proofs.Common.{◌≡◌, ◌∙◌, ℕ, ◌+◌, ◌-◌, ◌*◌, ◌≤◌, List, [], ◌∷◌, ◌++◌, map, fold, length, sym, ap, subst, arith, refl, ℤ, pos, Option, Some, None, inl, length-append}
 use Rattle.std.specs.List.{range_with_len}
 use Rattle.std.proofs.lemmas.List.{length-map, length-replicate}
-use Rattle.std.proofs.lemmas.Simd.{map-map}
 use Rattle.xb_model.specs.declared.mark.Mark.{Mark}
 use Rattle.xb_model.specs.declared.mark.Mark.TheVariants.{Trunk, Tone, Refused}
 use Rattle.xb_model.specs.declared.key.Tone.{Tone as Pair}
@@ -10,19 +9,17 @@ use Rattle.xb_model.specs.Image.{image_from}
 use Rattle.xb_sound.specs.declared.cadence.Cadence.{Cadence}
 use Rattle.xb_sound.specs.Cadences.{tone_ms}
 use Rattle.xb_sound.specs.HeardKeys.{AreKeyed}
-use Rattle.xb_sound.specs.Sines.{pair_sample}
 use Rattle.xb_sound.specs.Sounds.{silence}
 use Rattle.xb_ear.specs.declared.hearing.Heard.{Heard}
 use Rattle.xb_ear.specs.declared.hearing.Hearing.{Hearing}
 use Rattle.xb_ear.specs.Disturbed.{AreWithin, bounded}
 use Rattle.xb_ear.specs.Ears.{seen_at, sights, windows_in}
-use Rattle.xb_ear.specs.HeardKeys.{IsHearable, IsHearableUnlike, MOST_NOISE, MOST_NOISE_IN_TONES, disturbable, mark_disturbable}
+use Rattle.xb_ear.specs.HeardKeys.{IsHearable, IsHearableUnlike, MOST_NOISE, disturbable}
 use Rattle.xb_ear.specs.Hearings.{hearer, listed, silent}
-use Rattle.xb_ear.specs.LongRuns.{needed_of}
 use Rattle.xb_ear.specs.Receivers.{keys_of_sound}
 use Rattle.xb_ear.proofs.Fading.{AreLow, sees-key}
-use Rattle.xb_ear.proofs.HeardKeys.{disturbed-show, long-enough, more-zeros, part-long, zeros}
-use Rattle.xb_ear.proofs.Segments.{AreMatched, ShowsBy, Within, matched-within, part_of, sees, sees-part}
+use Rattle.xb_ear.proofs.HeardKeys.{disturbed-show, gapped, has-tone, lead-goes-on, tone-enough, tone-seen, toned}
+use Rattle.xb_ear.proofs.Segments.{AreMatched, Within, matched-within, part_of, sees}
 use Rattle.xb_ear.proofs.Shown.{still}
 use Rattle.xb_ear.proofs.SoonLow.{sound-low}
 use Rattle.xb_laws.proofs.Places.{AreMore, ArePlaced, after-lead, after-refusal, are-more, first_within, past_within, with-tone}
@@ -56,16 +53,13 @@ module _ (cadence : Cadence) (lawful : IsHearable cadence) (samples : List ℤ) 
       let from : ℕ = length past in
       let rest = disturbable cadence marks in
       let pause = bounded MOST_NOISE (silence cadence.lead_ms) in
-      let same : part_of still MOST_NOISE z ++ (pause ++ rest) ≡ part_of still MOST_NOISE (z + lead) ++ rest =
-      sym (append_assoc (part_of still MOST_NOISE z) pause rest)
-      ∙ ap (λ (xs : List (ℤ × ℕ)). xs ++ rest) (more-zeros z lead) in
       let pause-long : length pause ≡ lead =
       length-map (silence cadence.lead_ms) (λ x. (x, MOST_NOISE)) ∙ length-replicate lead (pos 0) in
       after-lead cadence t a first (past_within from) (from + z) (from + (z + lead)) marks
       (keys_from h (views samples from total))
       (omega arith)
       (placed-from marks keyed.1 past (z + lead) a first h has (later-ready a ready)
-      (subst (λ (xs : List (ℤ × ℕ)). AreMatched Within (past ++ xs) samples) same near) total
+      (subst (λ (xs : List (ℤ × ℕ)). AreMatched Within (past ++ xs) samples) (lead-goes-on cadence z rest) near) total
       (omega (arith, is, length-append pause rest, pause-long)))
     where
       later-ready : (b : Option Pair) → IsReady b first past z h → IsReady b first past (z + cadence.lead_ms * 8) h
@@ -76,66 +70,28 @@ module _ (cadence : Cadence) (lawful : IsHearable cadence) (samples : List ℤ) 
       (keys_from h (views samples (length past) total))
       (placed-from marks keyed.1 past z a first h has ready near total is)
   placed-from (Tone key p ∷ marks) keyed past z a first h has ready near total is =
-      let f : ℕ → ℤ = λ n. pair_sample p n in
       let m : ℕ = tone_ms cadence key * 8 in
       let gap : ℕ = cadence.gap_ms * 8 in
-      let quiet = part_of still MOST_NOISE z in
-      let tone = part_of f MOST_NOISE_IN_TONES m in
-      let pause = part_of still MOST_NOISE gap in
       let later = disturbable cadence marks in
-      let quiet-long : length quiet ≡ z = part-long still MOST_NOISE z in
-      let tone-long : length tone ≡ m = part-long f MOST_NOISE_IN_TONES m in
-      let pause-long : length pause ≡ gap = part-long still MOST_NOISE gap in
       let from : ℕ = length past in
       let to : ℕ = from + z in
       let end : ℕ = to + m in
-      let parts : mark_disturbable cadence (Tone key p) ≡ tone ++ pause =
-      ap (λ (xs : List (ℤ × ℕ)). xs ++ bounded MOST_NOISE (silence cadence.gap_ms))
-      (map-map (λ (x : ℤ). (x, MOST_NOISE_IN_TONES)) f (range_with_len 0 m))
-      ∙ ap (λ (xs : List (ℤ × ℕ)). tone ++ xs) (zeros gap 0) in
-      let shows : ShowsBy Within MOST_NOISE_IN_TONES f (Some p) =
-      subst (λ (q : Pair). ShowsBy Within MOST_NOISE_IN_TONES (λ n. pair_sample q n) (Some q)) (sym keyed.0.1)
-      (disturbed-show.of_key key keyed.0.0) in
-      let long : needed_of (Some p) * 20 + 80 ≤ m =
-      subst (λ (q : Pair). needed_of (Some q) * 20 + 80 ≤ m) (sym keyed.0.1)
-      (long-enough cadence (unlike cadence lawful) key keyed.0.0) in
-      let near1 : AreMatched Within (past ++ (quiet ++ ((tone ++ pause) ++ later))) samples =
-      subst (λ (xs : List (ℤ × ℕ)). AreMatched Within (past ++ (quiet ++ (xs ++ later))) samples) parts near in
-      let past2 = past ++ quiet in
-      let at2 : length past2 ≡ to = omega (arith, length-append past quiet, quiet-long) in
-      let near2 : AreMatched Within (past2 ++ (tone ++ (pause ++ later))) samples =
-      subst (λ (xs : List (ℤ × ℕ)). AreMatched Within xs samples)
-      (ap (λ (xs : List (ℤ × ℕ)). past ++ (quiet ++ xs)) (append_assoc tone pause later)
-      ∙ sym (append_assoc past quiet (tone ++ (pause ++ later)))) near1 in
-      let ends : end ≤ length samples =
-      omega (
-        arith,
-        at2,
-        tone-long,
-        near2.long,
-        length-append past2 (tone ++ (pause ++ later)),
-        length-append tone (pause ++ later),
-      ) in
+      let tone = has-tone Within cadence key p past z later samples near in
       let sees-tone : (w : ℕ) → to ≤ 20 * w → 20 * w + 80 ≤ end → sees samples w ≡ Some p =
-      λ w from to. sees-key samples low p w (omega (arith, to, ends))
-      (sees-part Within f MOST_NOISE_IN_TONES (Some p) shows past2 (pause ++ later) samples m w near2
-      (omega (arith, at2, from)) (omega (arith, at2, to))) in
-      let first-part = silence-ends cadence samples past ((tone ++ pause) ++ later) z a first h has ready near1 in
+      λ w from to. sees-key samples low p w (omega (arith, to, tone.fits))
+      (tone-seen Within disturbed-show cadence key p keyed.0.0 keyed.0.1 past z later samples tone w from to) in
+      let first-part = silence-ends cadence samples past ((toned cadence key p ++ gapped cadence) ++ later) z a first h has ready
+      tone.quiet in
       let h1 : Hearing = fold hearer.next h (views samples from to) in
-      let tone-part = tone-sounds cadence samples p to m h1 first-part.heard long sees-tone in
+      let tone-part = tone-sounds cadence samples p to m h1 first-part.heard
+      (tone-enough cadence (unlike cadence lawful) key p keyed.0.0 keyed.0.1) sees-tone in
       let h2 : Hearing = fold hearer.next h1 (views samples to end) in
-      let past3 = past2 ++ tone in
-      let at3 : length past3 ≡ end = omega (arith, length-append past2 tone, at2, tone-long) in
-      let near3 : AreMatched Within (past3 ++ (pause ++ later)) samples =
-      subst (λ (xs : List (ℤ × ℕ)). AreMatched Within xs samples) (sym (append_assoc past2 tone (pause ++ later))) near2 in
-      let sound-long : length (mark_disturbable cadence (Tone key p) ++ later) ≡ m + gap + length later =
-      length-append (mark_disturbable cadence (Tone key p)) later
-      ∙ ap (λ (n : ℕ). n + length later) (ap (λ (xs : List (ℤ × ℕ)). length xs) parts ∙ length-append tone pause
-      ∙ ap (λ (n : ℕ). n + length pause) tone-long ∙ ap (λ (n : ℕ). m + n) pause-long) in
-      let all : total ≡ length past3 + gap + length later = omega (arith, is, at3, sound-long) in
+      let past3 = (past ++ part_of still MOST_NOISE z) ++ toned cadence key p in
+      let at3 : length past3 ≡ end = tone.ends in
+      let all : total ≡ length past3 + gap + length later = omega (arith, is, at3, tone.long) in
       let rest = placed-from marks keyed.1 past3 gap (Some p) (first_within to) h2
       (subst (λ (n : ℕ). HasHeard (Some p) n h2) (sym at3) tone-part.heard)
-      (omega (arith, lawful.gap), tone-part.lasts) near3 total all in
+      (omega (arith, lawful.gap), tone-part.lasts) tone.after total all in
       let later-keys = keys_from h2 (views samples end total) in
       let placed : ArePlaced cadence to (Tone key p ∷ marks) later-keys =
       with-tone cadence key p to marks later-keys

@@ -232,7 +232,7 @@ rows_have_the_digits plan setting common lines wire asked said has runs is plain
     let here : slice_get (map begun_watched lines) wire ≡ Some (begun_watched asked) =
     slice_get-map begun_watched lines wire ∙ ap (option_map begun_watched) is.there in
     let told : IsTold setting manner wire asked.number (begun_watch setting lines) said has =
-    waits setting manner wire asked.number said (map begun_watched lines) None 0 has here
+    waits setting manner wire asked.number said (map begun_watched lines) None None 0 has here
     (subst (IsAlone wire asked.number) (sym (numbers-begun lines)) is.alone) is.is hears in
     let pieces : List Piece = pieces_taken (begun_pieces least has.first) (begun_tally least has.first) has.holds in
     let given : holds_in pieces ≡ all_given least (begun has.first) has.holds =

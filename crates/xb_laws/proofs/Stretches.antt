@@ -20,7 +20,7 @@ use Rattle.xb_laws.proofs.Beside.{level_at}
 use Rattle.xb_laws.proofs.Dots.{dropped}
 use Rattle.xb_laws.proofs.Inner.{inner, length²}
 use Rattle.xb_laws.proofs.Loud.{given}
-use Rattle.xb_laws.proofs.Rings.{nothing-times, regroup}
+use Rattle.xb_ear.proofs.Products.{nothing-times, regroup}
 use Rattle.xb_laws.proofs.Sums.{sum, sum-turn}
 use Rattle.xb_laws.proofs.Tones.{cosine, cosine-turns, from, tone, tone-turns}
 

@@ -2,7 +2,7 @@
 use Rattle.std.proofs.Common.{◌≡◌, ◌∙◌, ℕ, zero, suc, ◌+◌, ◌*◌, ◌≤◌, sym, ap, arith, refl, ℤ, pos, ◌+ℤ◌, ◌*ℤ◌, unsigned_abs}
 use Rattle.std.proofs.lemmas.Int.{ints}
 use Rattle.xb_ear.proofs.Voltages.{distributes-right}
-use Rattle.xb_laws.proofs.Rings.{nothing-times}
+use Rattle.xb_ear.proofs.Products.{nothing-times}
 
 -- so many numbers, from one on
 unfoldable pub sum : (ℕ → ℤ) → ℕ → ℕ → ℤ

@@ -18,6 +18,7 @@ use Rattle.xb_dial.specs.Drawn.{disturbed_from}
 use Rattle.xb_dial.specs.Runs.{hold_of_row, in_us, on_hook, runs_in}
 use Rattle.xb_dial.specs.Traces.{changes_from, clean_of, trace_changes, trace_end, trace_of}
 use Rattle.xb_dial.proofs.TraceTotals.{recorded-total}
+use Rattle.xb_feed.specs.declared.manner.Manner.{Manner}
 use Rattle.xb_loop.specs.WireRecords.{WireRecord, holds_from, record_from}
 use Rattle.xb_laws.specs.TraceTapes.{TracesAreRecorded, record_of_trace, said_of}
 
@@ -45,11 +46,14 @@ holds-again now end hold (next ∷ rest) e =
 abbrev said : ℕ → List Hold → List Event
 said end holds = events.Ticks (scale_by 1 1000) ∷ (change_events (changes_from 0 holds) ++ events.At end ∷ [])
 
+abbrev straight : Manner → Manner
+straight manner = record manner { inverted = false }
+
 from-start :
-    (end : ℕ) (hold : Hold) (rest : List Hold) → end ≡ total_of (hold ∷ rest)
-    → record_from false 0 None 0 (said end (hold ∷ rest))
+    (manner : Manner) (end : ℕ) (hold : Hold) (rest : List Hold) → end ≡ total_of (hold ∷ rest)
+    → record_from (straight manner) 0 None None 0 (said end (hold ∷ rest))
     ≡ Some (record { scale = scale_by 1 1000; first = hold.level; holds = hold ∷ rest })
-from-start end hold rest total =
+from-start manner end hold rest total =
     ap (λ (holds : List Hold). Some (record { scale = scale_by 1 1000; first = hold.level; holds = holds }))
     (holds-again 0 end hold rest (total ∙ sym (zero-add (total_of (hold ∷ rest)))))
 
@@ -68,21 +72,22 @@ begins bouncing rows =
     (hold_of Open ((1000 + taken_in Open R) * 1000 - 0), rest, (same, refl))
 
 from-begun :
-    (bouncing : Bouncing) (rows : List LoopRow) (hold : Hold) (rest : List Hold) → begins_as bouncing rows hold rest
-    → record_from false 0 None 0 (vcd_events (trace_changes bouncing rows) (trace_end rows)) ≡ Some (record_of_trace bouncing rows)
-from-begun bouncing rows hold rest begun =
+    (manner : Manner) (bouncing : Bouncing) (rows : List LoopRow) (hold : Hold) (rest : List Hold)
+    → begins_as bouncing rows hold rest
+    → record_from (straight manner) 0 None None 0 (vcd_events (trace_changes bouncing rows) (trace_end rows)) ≡ Some (record_of_trace bouncing rows)
+from-begun manner bouncing rows hold rest begun =
     let is = begun.0 in
     let level = begun.1 in
     let end : ℕ = trace_end rows in
     let total : end ≡ total_of (hold ∷ rest) =
     sym (recorded-total 0 bouncing.us bouncing.seed (clean_of rows)) ∙ ap total_of is in
-    ap (λ (holds : List Hold). record_from false 0 None 0 (said end holds)) is
-    ∙ from-start end hold rest total
+    ap (λ (holds : List Hold). record_from (straight manner) 0 None None 0 (said end holds)) is
+    ∙ from-start manner end hold rest total
     ∙ ap (λ (holds : List Hold). Some (record { scale = scale_by 1 1000; first = hold.level; holds = holds })) (sym is)
     ∙ ap (λ (first : Level). Some (record { scale = scale_by 1 1000; first = first; holds = recorded (trace_of bouncing rows) })) level
 
 pub traces_are_recorded : TracesAreRecorded
-traces_are_recorded manner bouncing rows straight =
+traces_are_recorded manner bouncing rows same =
     let all = begins bouncing rows in
-    ap (λ inverted. record_from inverted 0 None 0 (said_of bouncing rows)) straight
-    ∙ from-begun bouncing rows all.0 all.1 all.2
+    ap (λ inverted. record_from (record manner { inverted = inverted }) 0 None None 0 (said_of bouncing rows)) same
+    ∙ from-begun manner bouncing rows all.0 all.1 all.2

@@ -12,8 +12,8 @@ use Rattle.xb_model.specs.Rows.{LoopRow}
 use Rattle.xb_model.specs.Signals.{attempt_signals}
 use Rattle.xb_model.proofs.Lines.{of_line-all, of_line-append, of_line-none, of_line-other}
 use Rattle.xb_routes.specs.Table.{Table}
-use Rattle.xb_live.specs.declared.printing.EntryForm.{EntryForm}
-use Rattle.xb_live.specs.declared.printing.EntryForm.TheVariants.{Entries, Events, Marks, Objects, MarkObjects}
+use Rattle.xb_live.specs.declared.entry_text.EntryForm.{EntryForm}
+use Rattle.xb_live.specs.declared.entry_text.EntryForm.TheVariants.{Entries, Events, Marks, Objects, MarkObjects}
 use Rattle.xb_live.specs.Clocks.{Style}
 use Rattle.xb_live.specs.Events.{Event, event_by, event_line, events_by, made_by, signal_in, signals_on}
 use Rattle.xb_live.specs.Texts.{TellsEntries, entries_text, event_text, text_of, told_text}

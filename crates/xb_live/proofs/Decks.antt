@@ -27,16 +27,17 @@ table-fault style input out (table_fault.TooLong most) is = (Keeps-refl out, is)
 table-fault style input out table_fault.NoCut is = (Keeps-refl out, is)
 table-fault style input out table_fault.NoMemory is = inl (Keeps-refl out)
 
+-- a deck that was cut after a table that is refused has that table
+pub refused-deck : (text : List ℕ) (f : RouteFault) (input left : Option (List ℕ)) → IsCutAfter text input left → table_of_text text ≡ Err f → IfSome input (λ deck. (parts : Parts) × (deck_parts deck ≡ Some parts) × (table_of_text parts.table ≡ Err f))
+refused-deck text f None left cut refused = tt
+refused-deck text f (Some deck) None cut refused = absurd cut
+refused-deck text f (Some deck) (Some rows) cut refused = (record { table = text; rows = rows }, cut, refused)
+
 -- a table that is refused
 pub routes-fault : (style : Style) (input left out : Option (List ℕ)) (text : List ℕ) (f : RouteFault) (e : LiveFault)
     → IsCutAfter text input left → (f ≢ route_fault.NoMemory → table_of_text text ≡ Err f) → IsOfRoutes f e → Runs style input (Err e) out out
 routes-fault style input left out text f e cut is of =
-    ⊎_elim (λ m. rw (m.1) (inl (Keeps-refl out))) (λ o. rw (o.1) (Keeps-refl out, of_deck input left cut (is o.0))) of
-  where
-    of_deck : (input left : Option (List ℕ)) → IsCutAfter text input left → table_of_text text ≡ Err f → IfSome input (λ deck. (parts : Parts) × (deck_parts deck ≡ Some parts) × (table_of_text parts.table ≡ Err f))
-    of_deck None left cut refused = tt
-    of_deck (Some deck) None cut refused = absurd cut
-    of_deck (Some deck) (Some rows) cut refused = (record { table = text; rows = rows }, cut, refused)
+    ⊎_elim (λ m. rw (m.1) (inl (Keeps-refl out))) (λ o. rw (o.1) (Keeps-refl out, refused-deck text f input left cut (is o.0))) of
 
 -- what is returned for rows of bytes that are not known
 of_unknown : (style : Style) (result : Result (Unit {0}) LiveFault) (old new : Option (List ℕ)) → EndsRows result → Runs style None result old new

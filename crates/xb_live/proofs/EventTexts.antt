@@ -4,7 +4,7 @@ use Rattle.std.specs.List.{filter, flat_map, list_any}
 use Rattle.xb_model.specs.declared.signal.Signal.{Signal}
 use Rattle.xb_model.specs.declared.signal.Signal.TheVariants.{Seize, Digit, TimeOut, Release, Close}
 use Rattle.xb_live.specs.declared.line_hearing.Hearing.{Hearing}
-use Rattle.xb_live.specs.declared.printing.EntryForm.TheVariants.{Events}
+use Rattle.xb_live.specs.declared.entry_text.EntryForm.TheVariants.{Events}
 use Rattle.jiff_core.specs.declared.timestamp.Timestamp.{Timestamp}
 use Rattle.std.specs.Prelude.{Option}
 use Rattle.xb_clock.specs.Clocks.{Clock}

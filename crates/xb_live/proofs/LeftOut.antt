@@ -14,7 +14,7 @@ use Rattle.xb_model.specs.Rows.{LoopRow}
 use Rattle.xb_pulse.specs.Machine.{signals_by}
 use Rattle.xb_routes.specs.Table.{Table}
 use Rattle.xb_serial.proofs.OneLine.{both_all}
-use Rattle.xb_live.specs.declared.printing.EntryForm.TheVariants.{Events, Objects}
+use Rattle.xb_live.specs.declared.entry_text.EntryForm.TheVariants.{Events, Objects}
 use Rattle.xb_clock.specs.Clocks.{Clock, time_at}
 use Rattle.xb_live.specs.Clocks.{styled}
 use Rattle.xb_live.specs.EventObjects.{bare_object, digit_object, is_event, line_at, object_by}

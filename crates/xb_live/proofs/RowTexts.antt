@@ -12,8 +12,8 @@ use Rattle.xb_live.specs.declared.fault.EntriesFault.{EntriesFault}
 use Rattle.xb_live.specs.declared.fault.EntriesFault.TheVariants.{Late, LateEvent, NoMemory, Write}
 use Rattle.xb_live.specs.declared.line_hearing.Hearing.{Hearing}
 use Rattle.xb_live.specs.declared.hearings.Hearings.{Hearings}
-use Rattle.xb_live.specs.declared.printing.EntryForm.{EntryForm}
-use Rattle.xb_live.specs.declared.printing.EntryForm.TheVariants.{Entries, Events, Marks, Objects, MarkObjects}
+use Rattle.xb_live.specs.declared.entry_text.EntryForm.{EntryForm}
+use Rattle.xb_live.specs.declared.entry_text.EntryForm.TheVariants.{Entries, Events, Marks, Objects, MarkObjects}
 use Rattle.xb_clock.specs.Clocks.{Clock}
 use Rattle.xb_live.specs.Clocks.{IsLate, IsLateEvent, styled}
 use Rattle.xb_live.specs.Counting.{numbered_by}

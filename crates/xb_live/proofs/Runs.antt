@@ -13,9 +13,9 @@ use Rattle.xb_rows.specs.Scanning.{GivesRead}
 use Rattle.xb_live.specs.declared.fault.EntriesFault.{EntriesFault}
 use Rattle.xb_live.specs.declared.fault.EntriesFault.TheVariants as entries_fault
 use Rattle.xb_live.specs.declared.hearings.Hearings.{Hearings}
-use Rattle.xb_live.specs.declared.printing.EntryForm.{EntryForm}
+use Rattle.xb_live.specs.declared.entry_text.EntryForm.{EntryForm}
 use Rattle.xb_live.specs.Clocks.{Style}
-use Rattle.xb_live.specs.declared.printing.EntryForm.TheVariants.{Entries, Events, Marks, Objects, MarkObjects}
+use Rattle.xb_live.specs.declared.entry_text.EntryForm.TheVariants.{Entries, Events, Marks, Objects, MarkObjects}
 use Rattle.xb_live.specs.Counting.{Counted, HasCounted}
 use Rattle.xb_live.specs.Hearings.{HasHeard}
 use Rattle.xb_live.specs.Texts.{entries_text, told_text}

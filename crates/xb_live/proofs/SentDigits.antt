@@ -4,7 +4,6 @@ use Rattle.std.specs.Prelude.{IfSome}
 use Rattle.std.specs.List.{AllByRecursion}
 use Rattle.std.specs.Option.{option_to_list}
 use Rattle.std.proofs.lemmas.Bool.{cond_both}
-use Rattle.std.proofs.lemmas.List.Elements.{All-filter, All-from_recursion, recursion_from_All}
 use Rattle.xb_model.specs.declared.dialled.Dialled.{Dialled}
 use Rattle.xb_model.specs.declared.dialled.Dialled.TheVariants as dialled
 use Rattle.xb_model.specs.declared.digit.TheConstants.{DIGITS}
@@ -22,9 +21,10 @@ use Rattle.xb_model.specs.Lines.{of_line, on_line_of}
 use Rattle.xb_model.specs.Numbers.{digit_of_count}
 use Rattle.xb_model.specs.OnLines.{on_line}
 use Rattle.xb_model.specs.Plans.{plan_len}
-use Rattle.xb_model.specs.Routing.{AreRoutes, CodedRoute, IsRoute, longer_of, longest_of, order_by, order_of, route_for}
+use Rattle.xb_model.specs.Routing.{AreRoutes, CodedRoute, IsRoute, order_by, order_of, route_for}
 use Rattle.xb_model.specs.Rows.{LoopRow}
 use Rattle.xb_model.specs.TwoOfFive.{digit_of_pattern, pattern_of_count}
+use Rattle.xb_model.proofs.FoundRoutes.{found-is}
 use Rattle.xb_model.proofs.Spelled.{spells}
 use Rattle.xb_register.specs.declared.state.Phase.{Phase}
 use Rattle.xb_register.specs.declared.state.Phase.TheVariants.{OnHook, Listening, Done}
@@ -134,19 +134,6 @@ all-drop : (k : ℕ) (digits : List ℕ) → AreDigits digits → AreDigits (dro
 all-drop zero digits are = are
 all-drop (suc k) [] are = tt
 all-drop (suc k) (d ∷ digits) are = all-drop k digits are.1
-
--- a route that is found is one of the table
-longest-is : (routes : List CodedRoute) → AreRoutes routes → IfSome (longest_of routes) IsRoute
-longest-is [] are = tt
-longest-is (route ∷ routes) are = by (longest_of routes) (longest-is routes are.1)
-  where
-    by : (found : Option CodedRoute) → IfSome found IsRoute → IfSome (longer_of route found) IsRoute
-    by None is = are.0
-    by (Some other) is = cond_both _ (Some other) (Some route) (λ found. IfSome found IsRoute) (λ e. is) (λ e. are.0)
-
-found-is : (routes : List CodedRoute) (digits : List ℕ) → AreRoutes routes → IfSome (route_for routes digits) IsRoute
-found-is routes digits are =
-    longest-is _ (recursion_from_All IsRoute _ (All-filter _ IsRoute routes (All-from_recursion IsRoute routes are)))
 
 -- so the order of what is dialled sends digits
 order-sends : (routes : List CodedRoute) (outcome : Dialled) → AreRoutes routes → IsDialled outcome → Sends (order_of routes outcome)

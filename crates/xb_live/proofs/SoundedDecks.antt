@@ -1,11 +1,10 @@
 -- What is returned for a deck whose line sounds.
-use Rattle.std.proofs.Common.{◌≡◌, ◌≢◌, ◌-◌, ◌^◌, ℕ, List, Option, Some, None, IfSome, option_map, Result, Err, Ok, inl, inr, refl, ⊎_elim}
+use Rattle.std.proofs.Common.{◌≡◌, ◌≢◌, ◌-◌, ◌^◌, ℕ, List, Option, Some, None, option_map, Result, Err, Ok, inl, inr, refl, ⊎_elim}
 use Rattle.std.proofs.KnownBytes.{Keeps-refl}
 use Rattle.xb_model.specs.Sources.{Rest}
 use Rattle.xb_deck.specs.declared.deck.TheConstants.{MOST_DECK_BYTES}
 use Rattle.xb_deck.specs.declared.table.TableFault.{TableFault}
 use Rattle.xb_deck.specs.declared.table.TableFault.TheVariants as table_fault
-use Rattle.xb_deck.specs.Deck.{Parts, deck_parts}
 use Rattle.xb_deck.specs.Tables.{IsCutAfter, IsTableFault}
 use Rattle.xb_routes.specs.declared.fault.RouteFault.{RouteFault}
 use Rattle.xb_routes.specs.declared.fault.RouteFault.TheVariants as route_fault
@@ -19,6 +18,7 @@ use Rattle.xb_live.specs.Decks.{Has}
 use Rattle.xb_live.specs.Faults.{IsOfRoutes}
 use Rattle.xb_live.specs.Starting.{Asked}
 use Rattle.xb_live.specs.SoundedDecks.{EndsSound, SoundsDeck, SoundsRest, SoundsRows}
+use Rattle.xb_live.proofs.Decks.{refused-deck}
 
 module _ (asked : Asked) (cadence : Cadence) where
   -- a deck that gives no table
@@ -33,12 +33,7 @@ module _ (asked : Asked) (cadence : Cadence) where
   pub sound-routes-fault : (input left out : Option (List ℕ)) (text : List ℕ) (f : RouteFault) (e : LiveFault)
       → IsCutAfter text input left → (f ≢ route_fault.NoMemory → table_of_text text ≡ Err f) → IsOfRoutes f e → SoundsDeck asked cadence input (Err e) out out
   sound-routes-fault input left out text f e cut is of =
-      ⊎_elim (λ m. rw (m.1) (inl (Keeps-refl out))) (λ o. rw (o.1) (Keeps-refl out, of_deck input left cut (is o.0))) of
-    where
-      of_deck : (input left : Option (List ℕ)) → IsCutAfter text input left → table_of_text text ≡ Err f → IfSome input (λ deck. (parts : Parts) × (deck_parts deck ≡ Some parts) × (table_of_text parts.table ≡ Err f))
-      of_deck None left cut refused = tt
-      of_deck (Some deck) None cut refused = absurd cut
-      of_deck (Some deck) (Some rows) cut refused = (record { table = text; rows = rows }, cut, refused)
+      ⊎_elim (λ m. rw (m.1) (inl (Keeps-refl out))) (λ o. rw (o.1) (Keeps-refl out, refused-deck text f input left cut (is o.0))) of
 
   -- what is returned for rows of bytes that are not known
   of_unknown : (result : Result ℕ LiveFault) (old new : Option (List ℕ)) → EndsSound result → SoundsDeck asked cadence None result old new

@@ -18,8 +18,8 @@ use Rattle.xb_live.specs.declared.fault.EntriesFault.{EntriesFault}
 use Rattle.xb_live.specs.declared.fault.EntriesFault.TheVariants.{Late, LateEvent, NoMemory, Write}
 use Rattle.xb_live.specs.declared.line_hearing.Hearing.{Hearing}
 use Rattle.xb_live.specs.declared.hearings.Hearings.{Hearings}
-use Rattle.xb_live.specs.declared.printing.EntryForm.{EntryForm}
-use Rattle.xb_live.specs.declared.printing.EntryForm.TheVariants.{Entries, Events, Marks, Objects, MarkObjects}
+use Rattle.xb_live.specs.declared.entry_text.EntryForm.{EntryForm}
+use Rattle.xb_live.specs.declared.entry_text.EntryForm.TheVariants.{Entries, Events, Marks, Objects, MarkObjects}
 use Rattle.xb_clock.specs.Clocks.{Clock}
 use Rattle.xb_live.specs.Clocks.{IsLate, styled}
 use Rattle.xb_live.specs.Entries.{Entry, Numbered, entries_of_rows, numbered_after}
@@ -135,9 +135,6 @@ module _ (table : Table) where
   told-all rows =
       told-numbered [] rows
       ∙ ap (λ earlier. numbered_after earlier (drop (length earlier) (entries_of_rows table rows))) entries-none
-
-  pub told_of_rows-none : told_of_rows table [] ≡ []
-  told_of_rows-none = told_after-none []
 
 -- what is heard of a line is what is told of its entry
 module _ (table : Table) (lawful : IsLawful table.limits) (rows : List LoopRow) (entry : Numbered) where

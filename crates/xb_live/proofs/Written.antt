@@ -107,12 +107,6 @@ module _ (style : Style) (office after : Counted) (hearings heard : Hearings) (r
   written-fault marks number by (LateEvent l) of = written-late-event l of
   written-fault marks number by Write of = absurd of
 
--- where nothing was written, the entries of the earlier rows stand
-pub written-first : (style : Style) (office after : Counted) (hearings : Hearings) (table : after.live.table ≡ office.live.table) (rows more : List LoopRow) (start out : Option (List ℕ))
-    → HasWritten style office hearings rows start out → GotFirst style after.live.table (rows ++ more) start out
-written-first style office after hearings table rows more start out before =
-    (rows, first_of rows more, subst (λ t. Appends start out (entries_text style t rows)) (sym table) before.text)
-
 -- the lines below a number are the first of those below a greater one
 first_below : (n k : ℕ) → IsPrefix (lines_below n) (lines_below (n + k))
 first_below n zero = ([], append-nil _ ∙ ap lines_below (sym (add-zero n)))

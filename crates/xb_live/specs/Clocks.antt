@@ -1,8 +1,8 @@
 -- The times of day of entries and events, counted from one that is given.
 use Rattle.std.specs.Prelude.{ℕ}
 use Rattle.xb_clock.specs.Clocks.{Clock, IsClockSince, IsLateAt, IsLateSince}
-use Rattle.xb_live.specs.declared.printing.EntryForm.{EntryForm}
-use Rattle.xb_live.specs.declared.printing.EntryForm.TheVariants as form
+use Rattle.xb_live.specs.declared.entry_text.EntryForm.{EntryForm}
+use Rattle.xb_live.specs.declared.entry_text.EntryForm.TheVariants as form
 use Rattle.xb_live.specs.TimedEntries.{TimedEntry}
 
 -- a clock tells each time of day that a form asks for

@@ -14,7 +14,7 @@ use Rattle.xb_live.specs.Clocks.{IsLate, IsLateEvent}
 use Rattle.xb_live.specs.EventObjects.{is_event}
 use Rattle.xb_live.specs.declared.line_hearing.Hearing.{Hearing}
 use Rattle.xb_live.specs.TimedEntries.{TimedEntry, told_with}
-use Rattle.xb_live.specs.declared.printing.EntryForm.{EntryForm}
+use Rattle.xb_live.specs.declared.entry_text.EntryForm.{EntryForm}
 use Rattle.xb_live.specs.declared.fault.LiveFault.{LiveFault}
 use Rattle.xb_live.specs.declared.fault.LiveFault.TheVariants as fault
 

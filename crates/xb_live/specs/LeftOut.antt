@@ -6,7 +6,7 @@ use Rattle.serde_json.specs.Data.{Data}
 use Rattle.serde_json.specs.Find.{get}
 use Rattle.xb_model.specs.Rows.{LoopRow}
 use Rattle.xb_routes.specs.Table.{Table}
-use Rattle.xb_live.specs.declared.printing.EntryForm.TheVariants as form
+use Rattle.xb_live.specs.declared.entry_text.EntryForm.TheVariants as form
 use Rattle.xb_clock.specs.Clocks.{Clock}
 use Rattle.xb_live.specs.Clocks.{styled}
 use Rattle.xb_live.specs.Events.{Event}

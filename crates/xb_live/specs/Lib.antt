@@ -1,4 +1,5 @@
 pub mod Entries
+pub mod FaultTexts
 pub mod Times
 pub mod Hearings
 pub mod TimedEntries

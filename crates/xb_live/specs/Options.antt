@@ -1,5 +1,5 @@
 -- What the words of the command line ask for, as clap reads them.
-use Rattle.std.specs.Prelude.{ℕ, ◌≡◌, ◌==◌, ◌||◌, List, codes, Bool, true, false, Option, Some, None, if◌then◌else◌, is_some, min, nat_lt, option_map}
+use Rattle.std.specs.Prelude.{ℕ, ◌≡◌, ◌==◌, ◌||◌, List, codes, Bool, true, false, Option, Some, None, if◌then◌else◌, is_some, nat_lt, option_map}
 use Rattle.clap.specs.Walk.{Row, first_of}
 use Rattle.jiff_core.specs.declared.timestamp.Timestamp.{Timestamp}
 use Rattle.xb_clock.specs.Since.{ReadsSince}
@@ -11,9 +11,9 @@ use Rattle.xb_command.specs.declared.asking.Misfit.{Misfit}
 use Rattle.xb_command.specs.declared.table.Call.{Call}
 use Rattle.xb_model.specs.declared.line.TheConstants.{LINES}
 use Rattle.xb_sound.specs.declared.cadence.Cadence.{Cadence}
-use Rattle.xb_sound.specs.Cadences.{standard_cadence}
-use Rattle.xb_live.specs.declared.printing.EntryForm.{EntryForm}
-use Rattle.xb_live.specs.declared.printing.EntryForm.TheVariants as form
+use Rattle.xb_sound.specs.Cadences.{chosen_cadence}
+use Rattle.xb_live.specs.declared.entry_text.EntryForm.{EntryForm}
+use Rattle.xb_live.specs.declared.entry_text.EntryForm.TheVariants as form
 use Rattle.xb_live.specs.declared.request.Asked.{Asked}
 use Rattle.xb_live.specs.declared.request.Request.{Request}
 use Rattle.xb_live.specs.declared.request.Request.TheVariants as request
@@ -68,19 +68,9 @@ abbrev pub goes_with_sound : Options → Bool
 goes_with_sound options = is_some options.start || is_some options.lead_ms || is_some options.kp_ms
     || is_some options.key_ms || is_some options.gap_ms
 
--- a time that is given, up to the longest that is told apart, or else that of the standard
-abbrev pub time_of : Option ℕ → ℕ → ℕ
-time_of None standard = standard
-time_of (Some ms) standard = min ms 65535
-
 -- the standard cadence, with each time that is given in place of its own
 abbrev pub cadence_of : Options → Cadence
-cadence_of options = record {
-  lead_ms = time_of options.lead_ms standard_cadence.lead_ms;
-  kp_ms = time_of options.kp_ms standard_cadence.kp_ms;
-  key_ms = time_of options.key_ms standard_cadence.key_ms;
-  gap_ms = time_of options.gap_ms standard_cadence.gap_ms;
-}
+cadence_of options = chosen_cadence options.lead_ms options.kp_ms options.key_ms options.gap_ms
 
 -- a line of the office
 abbrev pub line_of : ℕ → Option ℕ

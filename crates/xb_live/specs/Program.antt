@@ -11,6 +11,7 @@ use Rattle.xb_live.specs.declared.request.Asked.{Asked}
 use Rattle.xb_live.specs.declared.request.Request.{Request}
 use Rattle.xb_live.specs.declared.request.Request.TheVariants.{Entries, Sound, StartedSound}
 use Rattle.xb_live.specs.declared.fault.LiveFault.{LiveFault}
+use Rattle.xb_live.specs.declared.fault.NoteFault.TheVariants as note
 use Rattle.xb_clock.specs.Clocks.{Clock}
 use Rattle.xb_live.specs.Clocks.{IsClockOf, styled}
 use Rattle.xb_live.specs.Options.{Asks, AsksNothing}
@@ -18,6 +19,7 @@ use Rattle.xb_live.specs.Runs.{Runs}
 use Rattle.xb_text.specs.Writing.{AppendsBeginning}
 use Rattle.xb_live.specs.Starting.{asked_of}
 use Rattle.xb_live.specs.SoundedDecks.{JudgesCadence, SoundsDeck}
+use Rattle.xb_live.specs.FaultTexts.{live_text, note_text}
 
 -- what is returned, where nothing is counted
 abbrev pub uncounted : Result ℕ LiveFault → Result (Unit {0}) LiveFault
@@ -54,8 +56,9 @@ note_of (Some line) (suc n) = note_line line (suc n)
 
 -- the note could not be told, and a line was that says so
 abbrev pub IsUntold : Text → Option ℕ → ℕ → Option (List ℕ) → Option (List ℕ) → Type 0
-IsUntold program line given_up old new =
-    (begun : Option (List ℕ)) × AppendsBeginning old begun (note_of line given_up) × Tells program None begun new
+IsUntold program line given_up old new = Tells program (Some (note_text note.NoMemory)) old new
+    ⊎ ((begun : Option (List ℕ)) × AppendsBeginning old begun (note_of line given_up)
+    × Tells program (Some (note_text note.Write)) begun new)
 
 -- what became of the note, and the status
 abbrev pub TellsNote : Text → Option ℕ → ℕ → Option (List ℕ) → Option (List ℕ) → ℕ → Type 0
@@ -72,7 +75,7 @@ pub record WritesAsked (request : Request) (old new : Streams) : Type 0 where
 pub record HasFault (request : Request) (program : Program) (old new : Streams) : Type 0 where
   pub fault : LiveFault
   pub written : Delivers request (Err fault) old.input old.output new.output
-  pub line : Tells program.name.now None old.errors new.errors
+  pub line : Tells program.name.now (Some (live_text fault)) old.errors new.errors
 
 -- all was written, and how many keyings were given up could not be told
 pub record HasUntold (request : Request) (program : Program) (old new : Streams) : Type 0 where

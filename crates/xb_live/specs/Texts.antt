@@ -11,8 +11,8 @@ use Rattle.xb_model.specs.Rows.{LoopRow, close_row}
 use Rattle.xb_routes.specs.Table.{Table}
 use Rattle.xb_tape.specs.MarkLines.{mark_line}
 use Rattle.xb_live.specs.declared.line_hearing.Hearing.{Hearing}
-use Rattle.xb_live.specs.declared.printing.EntryForm.{EntryForm}
-use Rattle.xb_live.specs.declared.printing.EntryForm.TheVariants as form
+use Rattle.xb_live.specs.declared.entry_text.EntryForm.{EntryForm}
+use Rattle.xb_live.specs.declared.entry_text.EntryForm.TheVariants as form
 use Rattle.xb_live.specs.Entries.{count_keyed, count_refused, entries_of_rows}
 use Rattle.xb_clock.specs.Clocks.{Clock, time_at}
 use Rattle.xb_live.specs.Clocks.{Style}

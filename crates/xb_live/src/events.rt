@@ -10,9 +10,9 @@ ghost use Rattle.xb_live.specs.Events.{event_with};
 ghost use Rattle.xb_live.specs.Faults.{IsOfSignals};
 ghost use Rattle.xb_live.specs.Texts.{event_text, signals_text};
 
+use crate::entry_text::EntryForm;
 use crate::fault::EntriesFault;
 use crate::line_hearing::Hearing;
-use crate::printing::EntryForm;
 use jiff_core::Timestamp;
 use json::Writer;
 use std::alloc::{AllocError, Global};

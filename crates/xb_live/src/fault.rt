@@ -2,6 +2,7 @@
 ghost use Rattle.std.specs.Prelude.{◌≡◌};
 
 use std::alloc::AllocError;
+use std::fmt;
 use thiserror::Error;
 use xb_clock::LAST_TIME;
 use xb_deck::TableFault;
@@ -15,18 +16,36 @@ use xb_trunk::TrunkFault;
 #[derive(Clone, Copy, Debug, PartialEq, Eq, Error)]
 pub enum EntriesFault {
     /// Memory ran out. Nothing was written of the row.
-    #[error("{}", RowFault::NoMemory)]
     NoMemory,
     /// A time of this entry of this line is past the last that there is, 9999-12-30T22:00:00.999999999Z. Nothing was
     /// written of its row.
-    #[error("line {}, entry {}: a time is past {}", .0, .1, LAST_TIME)]
     Late(u16, usize),
     /// The time of an event of this line is past that last one. Nothing was written of its row.
-    #[error("line {}, an event: its time is past {}", .0, LAST_TIME)]
     LateEvent(u16),
     /// A write or the flush failed, or a write took no byte. The beginning of what the row tells was written.
-    #[error("the entries could not be written")]
     Write,
+}
+
+impl fmt::Display for EntriesFault {
+    ghost use Rattle.std.specs.Prelude.{Some};
+    ghost use Rattle.xb_live.specs.FaultTexts.{entries_text};
+
+    ghost output = { λ fault. Some (entries_text fault) };
+
+    fn fmt<W: fmt::Write>(&self, f: &mut fmt::Formatter<W>) -> fmt::Result {
+        match self {
+            EntriesFault::NoMemory => f.write_str("out of memory"),
+            EntriesFault::Late(line, entry) => write!(
+                f,
+                "line {line}, entry {entry}: a time is past {LAST_TIME}"
+            ),
+            EntriesFault::LateEvent(line) => write!(
+                f,
+                "line {line}, an event: its time is past {LAST_TIME}"
+            ),
+            EntriesFault::Write => f.write_str("the entries could not be written"),
+        }
+    }
 }
 
 impl From<AllocError> for EntriesFault {
@@ -53,37 +72,61 @@ impl From<WriteFault> for EntriesFault {
 #[derive(Clone, Copy, Debug, PartialEq, Eq, Error)]
 pub enum LiveFault {
     /// The cadence of the sound is refused. The deck was not read.
-    #[error("cadence: {0}")]
     Cadence(CadenceFault),
     /// The deck gives no text of a route table; or later too a read failed, or memory ran out.
-    #[error("{0}")]
     Deck(TableFault),
     /// The route table is refused.
-    #[error("route table: {0}")]
     Routes(RouteFault),
     /// The loop rows are refused.
-    #[error("loop rows: {0}")]
     Rows(RowFault),
     /// There are more rows than can be counted: more than 2^63.
-    #[error("more than 9223372036854775808 records")]
     TooMany,
     /// Entries were not printed.
-    #[error("{0}")]
     Entries(EntriesFault),
     /// Samples were not written.
-    #[error("{0}")]
     Sound(TrunkFault),
+}
+
+impl fmt::Display for LiveFault {
+    ghost use Rattle.std.specs.Prelude.{Some};
+    ghost use Rattle.xb_live.specs.FaultTexts.{live_text};
+
+    ghost output = { λ fault. Some (live_text fault) };
+
+    fn fmt<W: fmt::Write>(&self, f: &mut fmt::Formatter<W>) -> fmt::Result {
+        match self {
+            LiveFault::Cadence(fault) => write!(f, "cadence: {fault}"),
+            LiveFault::Deck(fault) => write!(f, "{fault}"),
+            LiveFault::Routes(fault) => write!(f, "route table: {fault}"),
+            LiveFault::Rows(fault) => write!(f, "loop rows: {fault}"),
+            LiveFault::TooMany => f.write_str("more than 9223372036854775808 records"),
+            LiveFault::Entries(fault) => write!(f, "{fault}"),
+            LiveFault::Sound(fault) => write!(f, "{fault}"),
+        }
+    }
 }
 
 /// Why it is not told how many keyings were given up.
 #[derive(Clone, Copy, Debug, PartialEq, Eq, Error)]
 pub(crate) enum NoteFault {
     /// A write or the flush failed, or a write took no byte.
-    #[error("how many keyings were given up could not be told")]
     Write,
     /// Memory ran out.
-    #[error("{}", RowFault::NoMemory)]
     NoMemory,
+}
+
+impl fmt::Display for NoteFault {
+    ghost use Rattle.std.specs.Prelude.{Some};
+    ghost use Rattle.xb_live.specs.FaultTexts.{note_text};
+
+    ghost output = { λ fault. Some (note_text fault) };
+
+    fn fmt<W: fmt::Write>(&self, f: &mut fmt::Formatter<W>) -> fmt::Result {
+        match self {
+            NoteFault::Write => f.write_str("how many keyings were given up could not be told"),
+            NoteFault::NoMemory => f.write_str("out of memory"),
+        }
+    }
 }
 
 impl From<CadenceFault> for LiveFault {

@@ -1,9 +1,10 @@
 //! What the definitions give: each law is the contract of a function that does nothing.
-ghost use Rattle.std.specs.Prelude.{◌≡◌, ℕ, List, Ok};
+ghost use Rattle.std.specs.Prelude.{◌≡◌, ◌-◌, ◌^◌, ℕ, List, Ok};
 ghost use Rattle.xb_model.specs.LawfulLimits.{IsLawful};
 ghost use Rattle.xb_model.specs.Rows.{LoopRow};
 ghost use Rattle.xb_routes.specs.Table.{Table};
 ghost use Rattle.xb_routes.specs.Text.{table_of_text};
+ghost use Rattle.xb_live.specs.declared.counting.TheConstants.{MOST_ENTRIES};
 ghost use Rattle.xb_live.specs.Ascending.{TimesAscend};
 ghost use Rattle.xb_live.specs.Decks.{AcceptedRowsAreAll};
 ghost use Rattle.xb_live.specs.LeftOut.{EventsLeftOut};
@@ -44,4 +45,9 @@ pub fn times_ascend()
 #[tactic(auto, using(crate::proofs::LineHeard::line_is_heard))]
 pub fn line_is_heard()
     ensures { LineIsHeard }
+{}
+
+/// How many entries are counted at most.
+pub fn constants()
+    ensures most_entries { MOST_ENTRIES ≡ 2 ^ 64 - 1 }
 {}

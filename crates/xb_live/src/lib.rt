@@ -24,29 +24,28 @@
 #![tactic(auto)]
 
 mod counting;
+mod deck_entries;
+mod deck_sound;
+mod entry_text;
+mod entry_writing;
 mod events;
 mod fault;
 mod hearings;
 pub mod laws;
 mod line_hearing;
 mod objects;
-mod printing;
 mod program;
 mod request;
-mod running;
-mod sounding;
-mod starting;
+mod wink_start;
 mod words;
-mod writing;
 
 pub use counting::Counting;
+pub use deck_entries::run_deck;
+pub use deck_sound::sound_deck;
+pub use entry_text::EntryForm;
+pub use entry_writing::{end, take_row};
 pub use fault::{EntriesFault, LiveFault};
 pub use hearings::Hearings;
 pub use line_hearing::Hearing;
-pub use printing::EntryForm;
-pub use program::attend;
 pub use request::{Asked, Request};
-pub use running::run_deck;
-pub use sounding::sound_deck;
 pub use words::PROGRAM;
-pub use writing::{end, take_row};

@@ -1,20 +1,18 @@
 // The program: its words and a deck in, a status and entries or samples out.
-ghost use Rattle.std.specs.Prelude.{◌≡◌, true, IfOk, string_bytes};
-ghost use Rattle.clap.specs.Faults.{is_simple_and_free};
+ghost use Rattle.std.specs.Prelude.{◌≡◌, IfOk, string_bytes};
 ghost use Rattle.xb_command.specs.Programs.{streams};
-ghost use Rattle.xb_command.specs.Tables.{command_by};
-ghost use Rattle.xb_command.specs.Works.{AttendsBy, Runs};
+ghost use Rattle.xb_command.specs.Works.{Runs};
 ghost use Rattle.xb_live.specs.Program.{Delivers, Fails, TellsNote, WritesAsked, by_live, note_line, note_of, sounding_line};
 
+use crate::deck_entries::run_deck;
+use crate::deck_sound::sound_deck;
 use crate::fault::{LiveFault, NoteFault};
 use crate::request::{Asked, Request};
-use crate::running::run_deck;
-use crate::sounding::sound_deck;
 use crate::words::asked_of;
 use std::alloc::{AllocError, Global};
 use std::io::{Read, Write};
 use xb_command::{
-    Answer, Call, DONE, Files, Program, Source, Work, ask_words, tell_fault, text_source,
+    Answer, Call, DONE, Files, Given, Program, Source, Words, Work, tell_fault, text_source,
 };
 use xb_text::write_whole;
 
@@ -114,12 +112,8 @@ impl<'a> Work<'a> for Asked<'a> {
 
     ghost rules = { by_live };
 
-    fn ask(alloc: Global, call: &Call<'a>) -> Result<Asked<'a>, Answer<'a>> {
-        let words = match ask_words(alloc, call) {
-            Ok(words) => words,
-            Err(answer) => return Err(answer),
-        };
-        match asked_of(&words) {
+    fn ask(_alloc: Global, _call: &Call<'a>, words: &Words<'a>) -> Result<Asked<'a>, Answer<'a>> {
+        match asked_of(words) {
             Ok(asked) => Ok(asked),
             Err(misfit) => Err(Answer::Unfit(misfit)),
         }
@@ -129,34 +123,15 @@ impl<'a> Work<'a> for Asked<'a> {
         text_source(self.deck)
     }
 
-    fn run<F: Files, R: Read, W: Write, E: Write>(
-        self,
-        alloc: Global,
-        program: &Program<'a>,
-        _files: &F,
-        input: &mut R,
-        out: &mut W,
-        err: &mut E,
-    ) -> u8 {
+    fn run<F: Files, R: Read, W: Write, E: Write>(self, given: Given<'_, 'a, F, R, W, E>) -> u8 {
+        let Given {
+            alloc,
+            program,
+            input,
+            out,
+            err,
+            ..
+        } = given;
         answer(alloc, self.request, program, input, out, err)
     }
-}
-
-/// Reads the words of the command line, and by them writes the entries of a deck as it comes, as `run_deck` does, or the
-/// sound of a line of it, as `sound_deck` does, and tells how many keyings were given up for want of a start, where any
-/// were. It returns the status of the process, as `attend` of `xb_command` says.
-pub fn attend<F: Files, R: Read, W: Write, E: Write>(
-    alloc: Global,
-    call: &Call<'_>,
-    files: &F,
-    input: &mut R,
-    out: &mut W,
-    err: &mut E,
-) -> u8
-    requires { is_simple_and_free (command_by call.now.program.now) ≡ true }
-    ensures { AttendsBy by_live call.now (F.bytes files.now)
-        (streams (R.remaining input.old) (W.contents out.old) (E.contents err.old))
-        (streams (R.remaining input.new) (W.contents out.new) (E.contents err.new)) result }
-{
-    xb_command::attend::<Asked<'_>, F, R, W, E>(alloc, call, files, input, out, err)
 }

@@ -1,5 +1,5 @@
 // What is asked of a deck.
-use crate::printing::EntryForm;
+use crate::entry_text::EntryForm;
 use xb_model::LineNo;
 use xb_sound::Cadence;
 

@@ -1,13 +1,13 @@
 // The words of the program, and what they ask for.
 ghost use Rattle.std.specs.Prelude.{◌≡◌, IfErr, IfOk};
-ghost use Rattle.xb_live.specs.Options.{AskNothing, Say, SayAsked, asks_entries, cadence_of, form_of, form_with_events, goes_with_sound, line_of, objects_since, request_of, start_of, time_of};
+ghost use Rattle.xb_live.specs.Options.{AskNothing, Say, SayAsked, asks_entries, cadence_of, form_of, form_with_events, goes_with_sound, objects_since, request_of, start_of};
 
-use crate::printing::EntryForm;
+use crate::entry_text::EntryForm;
 use crate::request::{Asked, Request};
 use jiff_core::Timestamp;
 use xb_clock::{Since, no_time, since_of};
 use xb_command::{FLAG, Misfit, NOTHING, Program, Value, Word, Words};
-use xb_model::{LINES, LineNo};
+use xb_model::LineNo;
 use xb_sound::Cadence;
 
 /// The program and its words.
@@ -229,38 +229,16 @@ fn goes_with_sound(options: Options<'_>) -> bool
         || options.gap_ms.is_some()
 }
 
-// A time that is given, up to the longest that is told apart, or else that of the standard.
-fn time_of(given: Option<u32>, standard: u16) -> u16
-    ensures { result ≡ time_of given standard }
-{
-    match given {
-        Some(ms) => ms.min(65_535) as u16,
-        None => standard,
-    }
-}
-
 // The standard cadence, with each time that is given in place of its own.
 fn cadence_of(options: Options<'_>) -> Cadence
     ensures { result ≡ cadence_of options.entry }
 {
-    let standard = Cadence::standard();
-    Cadence {
-        lead_ms: time_of(options.lead_ms, standard.lead_ms),
-        kp_ms: time_of(options.kp_ms, standard.kp_ms),
-        key_ms: time_of(options.key_ms, standard.key_ms),
-        gap_ms: time_of(options.gap_ms, standard.gap_ms),
-    }
-}
-
-// The line of a number, where there is one.
-fn line_of(number: u32) -> Option<LineNo>
-    ensures { result ≡ line_of number }
-{
-    if number < u32::from(LINES) {
-        LineNo::new(number as u16)
-    } else {
-        None
-    }
+    Cadence::chosen(
+        options.lead_ms,
+        options.kp_ms,
+        options.key_ms,
+        options.gap_ms,
+    )
 }
 
 // The line whose winks are the starts of a line, if one is asked for; nothing where there is no such other line.
@@ -270,7 +248,7 @@ fn start_of(given: Option<u32>, line: LineNo) -> Option<Option<LineNo>>
     let Some(number) = given else {
         return Some(None);
     };
-    let start = line_of(number)?;
+    let start = LineNo::of_number(number)?;
     if start == line {
         None
     } else {
@@ -286,7 +264,7 @@ fn request_of(options: Options<'_>) -> Option<Request>
     match options.sound {
         Some(_) if asks_entries(options) => None,
         Some(number) => {
-            let line = line_of(number)?;
+            let line = LineNo::of_number(number)?;
             match start_of(options.start, line)? {
                 None => Some(Request::Sound(line, cadence_of(options))),
                 Some(start) => Some(Request::StartedSound(line, start, cadence_of(options))),

@@ -13,8 +13,10 @@ use Rattle.xb_command.specs.declared.asking.Answer.TheVariants as answer
 use Rattle.xb_command.specs.declared.table.Call.{Call}
 use Rattle.xb_command.specs.declared.telling.TheConstants.{FAULT}
 use Rattle.xb_text.specs.Writing.{AppendsBeginning}
+use Rattle.xb_feed.proofs.UnfitWords.{unfit_is_wrong}
 use Rattle.xb_feed.specs.Options.{IsUnfit, SayNothing}
 use Rattle.xb_loop.specs.Options.{AskNothing}
+use Rattle.xb_loop.specs.FaultTexts.{loop_text}
 use Rattle.xb_loop.specs.WireLines.{more_note}
 use Rattle.xb_loop.specs.declared.common.Common.{Common}
 use Rattle.xb_loop.specs.declared.fault.LoopFault.{LoopFault}
@@ -125,7 +127,7 @@ more_or_not name request are_more old new status wires (inr (is, untold)) = reco
 -- it could not be told that there are more wires
 pub more_untold :
     (name : Text) (are_more : Bool) (begun old new : Option (List ℕ)) (status : ℕ) → are_more ≡ true
-    → AppendsBeginning old begun (more_note true) → status ≡ FAULT → Tells name None begun new
+    → AppendsBeginning old begun (more_note true) → status ≡ FAULT → Tells name (loop_text faults.More) begun new
     → TellsMore name are_more old new status
 more_untold name true begun old new status is first fails line = inr (fails, (begun, first, line))
 more_untold name false begun old new status is first fails line = cc
@@ -134,9 +136,5 @@ more_untold name false begun old new status is first fails line = cc
 pub is_wrong :
     (call : Call) (rows : List Row) (a : Answer) → Takes call rows → IsUnfit (SayNothing rows) a
     → IsWrong AskNothing call a
-is_wrong call rows answer.NoMemory takes is = tt
-is_wrong call rows (answer.Unfit misfit) takes is = record { rows = rows; takes = takes; says = is }
-is_wrong call rows answer.Help takes is = absurd is
-is_wrong call rows answer.Version takes is = absurd is
-is_wrong call rows (answer.Wrong kind reason) takes is = absurd is
-is_wrong call rows (answer.Against breach) takes is = absurd is
+is_wrong call rows a takes is =
+    unfit_is_wrong (SayNothing rows) AskNothing call a (λ misfit says. record { rows = rows; takes = takes; says = says }) is

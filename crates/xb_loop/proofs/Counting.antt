@@ -9,16 +9,15 @@ use Rattle.std.proofs.KnownBytes.{Consumes-nil, Consumes-trans}
 use Rattle.xb_contact.specs.declared.event.Event.{Event}
 use Rattle.xb_contact.specs.declared.event.Event.TheVariants as events
 use Rattle.xb_contact.specs.declared.level.Level.{Level}
-use Rattle.xb_contact.specs.Repeats.{levels_of}
 use Rattle.xb_recording.specs.declared.reader.Reader.{Reader}
 use Rattle.xb_recording.specs.declared.format.Format.{Format}
 use Rattle.xb_recording.specs.declared.wanted.Wanted.{Wanted}
 use Rattle.xb_recording.specs.Says.{Begins, RestSays, Takes, names_in}
 use Rattle.xb_loop.specs.declared.counts.Seen.{Seen}
 use Rattle.xb_loop.specs.declared.listing.Counter.{Counter}
-use Rattle.xb_loop.specs.Counts.{IsCountedAfter, edges_in, level_seen, levels_seen, nothing_seen}
+use Rattle.xb_loop.specs.Counts.{IsCountedAfter, edges_in, level_seen, levels_seen, nothing_seen, said_of}
 use Rattle.xb_loop.proofs.Counted.{edges_are_seen}
-use Rattle.xb_loop.specs.Listing.{CountsMore, CountsOn, CountsRest, HasEdges, IsCount, ListsWires, edges_of, is_each}
+use Rattle.xb_loop.specs.Listing.{CountsMore, CountsOn, CountsRest, HasEdges, IsCount, ListsWires, edges_of}
 use Rattle.xb_loop.specs.declared.listing.Listing.{Listing}
 use Rattle.xb_loop.specs.declared.listing.TheConstants.{MOST_BEGINNING_BYTES}
 use Rattle.xb_loop.specs.Names.{named_by, named_in}
@@ -28,39 +27,45 @@ use Rattle.std.specs.declared.vec.Vec.{Vec}
 use Rattle.std.specs.declared.alloc.Global.{Global}
 use Rattle.xb_recording.specs.Beginnings.{form_told}
 
+one-more :
+    {T : Type 0} (here : Bool) (first : T) (said later all : List T) → all ≡ said ++ later
+    → cond here (first ∷ all) all ≡ cond here (first ∷ said) said ++ later
+one-more true first said later all e = ap (λ l. first ∷ l) e
+one-more false first said later all e = e
+
 levels-append :
-    (wire : ℕ) (said later : List Event) → levels_of wire (said ++ later) ≡ levels_of wire said ++ levels_of wire later
+    (wire : ℕ) (said later : List Event) → said_of wire (said ++ later) ≡ said_of wire said ++ said_of wire later
 levels-append wire [] later = refl
 levels-append wire (events.Ticks scale ∷ said) later = levels-append wire said later
 levels-append wire (events.At tick ∷ said) later = levels-append wire said later
 levels-append wire (events.Level other level ∷ said) later =
-    let rest : levels_of wire (said ++ later) ≡ levels_of wire said ++ levels_of wire later = levels-append wire said later in
-    elim (other == wire) as (λ t. cond t (level ∷ levels_of wire (said ++ later)) (levels_of wire (said ++ later)) ≡ cond t (level ∷ levels_of wire said) (levels_of wire said) ++ levels_of wire later) [
-      | true ↦ ap (λ l. level ∷ l) rest
-      | false ↦ rest
-    ]
+    one-more (other == wire) (false, level) (said_of wire said) (said_of wire later) (said_of wire (said ++ later))
+    (levels-append wire said later)
+levels-append wire (events.Edge other level ∷ said) later =
+    one-more (other == wire) (true, level) (said_of wire said) (said_of wire later) (said_of wire (said ++ later))
+    (levels-append wire said later)
 
 seen-append :
-    (each : Bool) (own : Seen) (levels later : List Level)
-    → levels_seen each own (levels ++ later) ≡ levels_seen each (levels_seen each own levels) later
-seen-append each own [] later = refl
-seen-append each own (level ∷ levels) later = seen-append each (level_seen each own level) levels later
+    (own : Seen) (levels later : List (Bool × Level))
+    → levels_seen own (levels ++ later) ≡ levels_seen (levels_seen own levels) later
+seen-append own [] later = refl
+seen-append own (level ∷ levels) later = seen-append (level_seen own level) levels later
 
 counted-then :
-    (each : Bool) (old mid new : List Seen) (said later : List Event) → IsCountedAfter each old said mid
-    → IsCountedAfter each mid later new → IsCountedAfter each old (said ++ later) new
-counted-then each old mid new said later p q wire =
-    q wire ∙ ap (option_map (λ own. levels_seen each own (levels_of wire later))) (p wire) ∙ at (slice_get old wire)
+    (old mid new : List Seen) (said later : List Event) → IsCountedAfter old said mid
+    → IsCountedAfter mid later new → IsCountedAfter old (said ++ later) new
+counted-then old mid new said later p q wire =
+    q wire ∙ ap (option_map (λ own. levels_seen own (said_of wire later))) (p wire) ∙ at (slice_get old wire)
   where
     at :
         (own : Option Seen)
-        → option_map (λ own. levels_seen each own (levels_of wire later)) (option_map (λ own. levels_seen each own (levels_of wire said)) own)
-        ≡ option_map (λ own. levels_seen each own (levels_of wire (said ++ later))) own
+        → option_map (λ own. levels_seen own (said_of wire later)) (option_map (λ own. levels_seen own (said_of wire said)) own)
+        ≡ option_map (λ own. levels_seen own (said_of wire (said ++ later))) own
     at None = refl
     at (Some own) =
         ap (λ s. Some s)
-        (sym (ap (levels_seen each own) (levels-append wire said later)
-        ∙ seen-append each own (levels_of wire said) (levels_of wire later)))
+        (sym (ap (levels_seen own) (levels-append wire said later)
+        ∙ seen-append own (said_of wire said) (said_of wire later)))
 
 takes-then :
     (old mid new : Reader) (bytes more : List ℕ) (said later : List Event) → Takes old mid bytes said
@@ -75,18 +80,16 @@ pub counts_then :
     (old mid new : Counter) (bytes more : List ℕ) → CountsOn old bytes mid → CountsOn mid more new
     → CountsOn old (bytes ++ more) new
 counts_then old mid new bytes more p q =
-    let K : Bool → Type 0 = λ each. IsCountedAfter each mid.counts.seen.items q.said new.counts.seen.items in
     record {
       said = p.said ++ q.said;
       takes = takes-then old.reader mid.reader new.reader bytes more p.said q.said p.takes q.takes;
-      seen = counted-then old.counts.each old.counts.seen.items mid.counts.seen.items new.counts.seen.items p.said q.said p.seen (subst K p.each q.seen);
-      each = q.each ∙ p.each;
+      seen = counted-then old.counts.seen.items mid.counts.seen.items new.counts.seen.items p.said q.said p.seen q.seen;
     }
 
-nothing-counted : (each : Bool) (old : List Seen) → IsCountedAfter each old [] old
-nothing-counted each old wire = at (slice_get old wire)
+nothing-counted : (old : List Seen) → IsCountedAfter old [] old
+nothing-counted old wire = at (slice_get old wire)
   where
-    at : (own : Option Seen) → own ≡ option_map (λ own. levels_seen each own []) own
+    at : (own : Option Seen) → own ≡ option_map (λ own. levels_seen own []) own
     at None = refl
     at (Some own) = refl
 
@@ -94,8 +97,7 @@ pub counts_none : (old : Counter) → CountsOn old [] old
 counts_none old = record {
   said = [];
   takes = λ text rest says. says;
-  seen = nothing-counted old.counts.each old.counts.seen.items;
-  each = refl;
+  seen = nothing-counted old.counts.seen.items;
 }
 
 -- a piece, byte by byte
@@ -134,11 +136,10 @@ pub rest_then :
     (old mid : Counter) (bytes text : List ℕ) (seen : List Seen) → CountsOn old bytes mid → CountsRest mid text seen
     → CountsRest old (bytes ++ text) seen
 rest_then old mid bytes text seen p q =
-    let K : Bool → Type 0 = λ each. IsCountedAfter each mid.counts.seen.items q.events seen in
     record {
       events = p.said ++ q.events;
       says = p.takes text q.events q.says;
-      counted = counted-then old.counts.each old.counts.seen.items mid.counts.seen.items seen p.said q.events p.seen (subst K p.each q.counted);
+      counted = counted-then old.counts.seen.items mid.counts.seen.items seen p.said q.events p.seen q.counted;
     }
 
 -- all of a recording of which this was read already
@@ -162,40 +163,38 @@ begun-seen (name ∷ names) zero = refl
 begun-seen (name ∷ names) (suc wire) = begun-seen names wire
 
 edges-of-wire :
-    (each : Bool) (names : List (List ℕ)) (wire : ℕ) (said : List Event) (seen : List Seen)
-    → IsCountedAfter each (replicate (length names) nothing_seen) said seen
+    (names : List (List ℕ)) (wire : ℕ) (said : List Event) (seen : List Seen)
+    → IsCountedAfter (replicate (length names) nothing_seen) said seen
     → slice_get (edges_of seen) wire
-    ≡ option_map (λ name. min (edges_in each (levels_of wire said)) (2 ^ 64 - 1)) (slice_get names wire)
-edges-of-wire each names wire said seen counted =
+    ≡ option_map (λ name. min (edges_in (said_of wire said)) (2 ^ 64 - 1)) (slice_get names wire)
+edges-of-wire names wire said seen counted =
     slice_get-map (λ (own : Seen). own.edges) seen wire
-    ∙ ap (option_map (λ own. own.edges)) (counted wire ∙ ap (option_map (λ own. levels_seen each own (levels_of wire said))) (begun-seen names wire))
+    ∙ ap (option_map (λ own. own.edges)) (counted wire ∙ ap (option_map (λ own. levels_seen own (said_of wire said))) (begun-seen names wire))
     ∙ at (slice_get names wire)
   where
     at :
         (name : Option (List ℕ))
-        → option_map (λ (own : Seen). own.edges) (option_map (λ own. levels_seen each own (levels_of wire said)) (option_map (λ name. nothing_seen) name))
-        ≡ option_map (λ name. min (edges_in each (levels_of wire said)) (2 ^ 64 - 1)) name
+        → option_map (λ (own : Seen). own.edges) (option_map (λ own. levels_seen own (said_of wire said)) (option_map (λ name. nothing_seen) name))
+        ≡ option_map (λ name. min (edges_in (said_of wire said)) (2 ^ 64 - 1)) name
     at None = refl
-    at (Some name) = ap (λ n. Some n) (edges_are_seen each (levels_of wire said))
+    at (Some name) = ap (λ n. Some n) (edges_are_seen (said_of wire said))
 
 pub has_edges :
     (known : Option (List ℕ)) (format : Format) (wanted : Wanted) (counter : Counter) (before : List Event)
     (seen : List Seen) (edges : List ℕ) → Begins format wanted counter.reader before
-    → counter.counts.each ≡ is_each format
-    → IsCountedAfter (is_each format) (replicate (length (names_in wanted)) nothing_seen) before counter.counts.seen.items
+    → IsCountedAfter (replicate (length (names_in wanted)) nothing_seen) before counter.counts.seen.items
     → edges ≡ edges_of seen → IfSome known (λ text. CountsRest counter text seen)
     → IfSome known (λ text. HasEdges format wanted text edges)
-has_edges None format wanted counter before seen edges begins each counted are rest = tt
-has_edges (Some text) format wanted counter before seen edges begins each counted are rest =
-    let K : Bool → Type 0 = λ e. IsCountedAfter e counter.counts.seen.items rest.events seen in
-    let all : IsCountedAfter (is_each format) (replicate (length (names_in wanted)) nothing_seen) (before ++ rest.events) seen =
-    counted-then (is_each format) (replicate (length (names_in wanted)) nothing_seen) counter.counts.seen.items seen before rest.events
-    counted (subst K each rest.counted) in
+has_edges None format wanted counter before seen edges begins counted are rest = tt
+has_edges (Some text) format wanted counter before seen edges begins counted are rest =
+    let all : IsCountedAfter (replicate (length (names_in wanted)) nothing_seen) (before ++ rest.events) seen =
+    counted-then (replicate (length (names_in wanted)) nothing_seen) counter.counts.seen.items seen before rest.events
+    counted rest.counted in
     record {
       events = before ++ rest.events;
       said = begins text rest.events rest.says;
       are = λ wire. ap (λ them. slice_get them wire) are
-          ∙ edges-of-wire (is_each format) (names_in wanted) wire (before ++ rest.events) seen all;
+          ∙ edges-of-wire (names_in wanted) wire (before ++ rest.events) seen all;
     }
 
 pub is_count :

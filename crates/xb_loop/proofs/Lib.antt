@@ -12,6 +12,8 @@ pub mod BounceTexts
 pub mod WireRows
 pub mod Followed
 pub mod Losses
+pub mod FirstEdges
+pub mod FirstMakes
 pub mod PassedTexts
 pub mod AloneLines
 pub mod Recordings

@@ -16,7 +16,7 @@ pub from_outside :
     → IfSome input (λ text. IsUnlisted asked text fault)
 from_outside asked fault None is = tt
 from_outside asked (faults.Untold reason) (Some text) is = absurd is
-from_outside asked faults.Read (Some text) is = tt
+from_outside asked (faults.Read unread) (Some text) is = tt
 from_outside asked faults.NoMemory (Some text) is = tt
 
 most-is : MOST_BEGINNING_BYTES ≡ 131072
@@ -30,7 +30,7 @@ pub begins_untold :
     → IfSome input (λ text. IsUnlisted asked text fault)
 begins_untold asked fault None left beginning is_end read end long none untold = tt
 begins_untold asked fault (Some text) None beginning is_end read end long none untold = absurd read
-begins_untold asked faults.Read (Some text) (Some rest) beginning is_end read end long none untold = absurd untold
+begins_untold asked (faults.Read unread) (Some text) (Some rest) beginning is_end read end long none untold = absurd untold
 begins_untold asked faults.NoMemory (Some text) (Some rest) beginning is_end read end long none untold = absurd untold
 begins_untold asked (faults.Untold reason) (Some text) (Some rest) beginning is_end read end long none untold =
     let four : is_end ≡ false → 4 ≤ length beginning = λ going. let all = long going in omega (arith, all, most-is) in

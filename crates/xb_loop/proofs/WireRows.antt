@@ -1,12 +1,13 @@
 -- The rows of one line, of those of all.
 use Rattle.std.proofs.Common.{◌≡◌, ℕ, zero, suc, List, [], ◌∷◌, ◌++◌, false, Option, Some, None, map, refl, ap, sym, ◌∙◌, ◌==◌, cond, arith, append-nil}
-use Rattle.std.specs.Prelude.{slice_get, slice_set}
+use Rattle.std.specs.Prelude.{option_map, slice_get, slice_set}
 use Rattle.std.specs.Option.{option_map_or}
 use Rattle.std.specs.List.{flat_map}
 use Rattle.std.proofs.lemmas.Bool.{eqb-false, ne_eqb}
 use Rattle.std.proofs.lemmas.Grind.{flat_map-append}
 use Rattle.std.proofs.lemmas.List.{map-append}
 use Rattle.std.proofs.lemmas.List.Elements.{filter-append}
+use Rattle.std.proofs.lemmas.Option.{slice_get-map}
 use Rattle.xb_model.specs.Lines.{row_line}
 use Rattle.xb_model.specs.Records.{rows_of}
 use Rattle.xb_model.specs.Rows.{LoopRow}
@@ -14,10 +15,12 @@ use Rattle.xb_model.proofs.Lines.{of_line-all}
 use Rattle.xb_contact.specs.declared.hold.Hold.{Hold}
 use Rattle.xb_contact.specs.declared.level.Level.{Level}
 use Rattle.xb_contact.specs.declared.scale.Scale.{Scale}
+use Rattle.xb_contact.specs.Holds.{other_level}
+use Rattle.xb_feed.specs.Watching.{contact_before, edge_told, level_seen, line_edge_told, line_edged}
 use Rattle.xb_loop.specs.declared.common.Common.{Common}
 use Rattle.xb_loop.specs.Contacts.{Followed, given_until, left_at_end}
 use Rattle.xb_loop.specs.RowsOfHolds.{day_parts, row_of_hold, rows_of_holds, written_rows}
-use Rattle.xb_loop.specs.Watching.{Watched, all_held, contact_left, contact_rows, line_changed, line_left, line_rows, wire_changed}
+use Rattle.xb_loop.specs.Watching.{Watched, all_held, by_rows, contact_left, contact_rows, line_changed, line_left, line_rows, wire_changed, wire_edge_rows, wire_edged}
 use Rattle.xb_loop.specs.WireRecords.{IsAlone}
 use Rattle.xb_loop.proofs.KeptTapes.{rows_own}
 
@@ -134,15 +137,15 @@ numbers-set (first ∷ rest) zero watched line at same =
 numbers-set (first ∷ rest) (suc wire) watched line at same =
     ap (λ numbers. first.number ∷ numbers) (numbers-set rest wire watched line at same)
 
-set-here :
-    (lines : List Watched) (wire : ℕ) (watched line : Watched) → slice_get lines wire ≡ Some line
+pub set-here :
+    {A : Type 0} (lines : List A) (wire : ℕ) (watched line : A) → slice_get lines wire ≡ Some line
     → slice_get (slice_set lines wire watched) wire ≡ Some watched
 set-here [] wire watched line at = cc
 set-here (first ∷ rest) zero watched line at = refl
 set-here (first ∷ rest) (suc wire) watched line at = set-here rest wire watched line at
 
-set-there :
-    (lines : List Watched) (other wire : ℕ) (watched : Watched) → (other == wire) ≡ false
+pub set-there :
+    {A : Type 0} (lines : List A) (other wire : ℕ) (watched : A) → (other == wire) ≡ false
     → slice_get (slice_set lines other watched) wire ≡ slice_get lines wire
 set-there [] other wire watched ne = refl
 set-there (first ∷ rest) zero zero watched ne = cc
@@ -151,42 +154,103 @@ set-there (first ∷ rest) (suc other) zero watched ne = refl
 set-there (first ∷ rest) (suc other) (suc wire) watched ne =
     set-there rest other wire watched (ne_eqb other wire (λ e. eqb-false (suc other) (suc wire) ne (ap suc e)))
 
--- a wire has a level
-changed-by :
-    (common : Common) (scale : Scale) (now : ℕ) (level : Level) (other : ℕ) (lines : List Watched) (found : Option Watched)
-    → slice_get lines other ≡ found
-    → numbers_of (option_map_or (λ line. slice_set lines other (line_changed common scale now level line)) found lines)
-    ≡ numbers_of lines
-changed-by common scale now level other lines None at = refl
-changed-by common scale now level other lines (Some line) at =
-    numbers-set lines other (line_changed common scale now level line) line at refl
+-- the line of one wire changes, and keeps its number
+module _ (after : Watched → Watched) (same : (line : Watched) → (after line).number ≡ line.number) where
+  abbrev lines_after : ℕ → List Watched → Option Watched → List Watched
+  lines_after other lines found = option_map_or (λ line. slice_set lines other (after line)) found lines
 
+  numbers-by :
+      (other : ℕ) (lines : List Watched) (found : Option Watched) → slice_get lines other ≡ found
+      → numbers_of (lines_after other lines found) ≡ numbers_of lines
+  numbers-by other lines None at = refl
+  numbers-by other lines (Some line) at = numbers-set lines other (after line) line at (same line)
+
+  here-by :
+      (wire : ℕ) (lines : List Watched) (line : Watched) → slice_get lines wire ≡ Some line
+      → slice_get (lines_after wire lines (slice_get lines wire)) wire ≡ Some (after line)
+  here-by wire lines line at =
+      ap (λ found. slice_get (lines_after wire lines found) wire) at ∙ set-here lines wire (after line) line at
+
+  there-by :
+      (other wire : ℕ) (lines : List Watched) (found : Option Watched) → (other == wire) ≡ false
+      → slice_get (lines_after other lines found) wire ≡ slice_get lines wire
+  there-by other wire lines None ne = refl
+  there-by other wire lines (Some line) ne = set-there lines other wire (after line) ne
+
+-- a wire has a level
 pub numbers-changed :
     (common : Common) (scale : Scale) (now : ℕ) (level : Level) (other : ℕ) (lines : List Watched)
     → numbers_of (wire_changed common scale now level other lines) ≡ numbers_of lines
 numbers-changed common scale now level other lines =
-    changed-by common scale now level other lines (slice_get lines other) refl
+    numbers-by (line_changed common scale now level) (λ line. refl) other lines (slice_get lines other) refl
 
 pub changed-here :
     (common : Common) (scale : Scale) (now : ℕ) (level : Level) (wire : ℕ) (lines : List Watched) (line : Watched)
     → slice_get lines wire ≡ Some line
     → slice_get (wire_changed common scale now level wire lines) wire ≡ Some (line_changed common scale now level line)
 changed-here common scale now level wire lines line at =
-    ap (λ found. slice_get (option_map_or (λ w. slice_set lines wire (line_changed common scale now level w)) found lines) wire) at
-    ∙ set-here lines wire (line_changed common scale now level line) line at
-
-changed-there-by :
-    (common : Common) (scale : Scale) (now : ℕ) (level : Level) (other wire : ℕ) (lines : List Watched)
-    (found : Option Watched) → (other == wire) ≡ false
-    → slice_get (option_map_or (λ w. slice_set lines other (line_changed common scale now level w)) found lines) wire
-    ≡ slice_get lines wire
-changed-there-by common scale now level other wire lines None ne = refl
-changed-there-by common scale now level other wire lines (Some line) ne =
-    set-there lines other wire (line_changed common scale now level line) ne
+    here-by (line_changed common scale now level) (λ line. refl) wire lines line at
 
 pub changed-there :
     (common : Common) (scale : Scale) (now : ℕ) (level : Level) (other wire : ℕ) (lines : List Watched)
     → (other == wire) ≡ false
     → slice_get (wire_changed common scale now level other lines) wire ≡ slice_get lines wire
 changed-there common scale now level other wire lines ne =
-    changed-there-by common scale now level other wire lines (slice_get lines other) ne
+    there-by (line_changed common scale now level) (λ line. refl) other wire lines (slice_get lines other) ne
+
+-- a wire has an edge
+pub numbers-edged :
+    (common : Common) (scale : Scale) (first now : ℕ) (level : Level) (other : ℕ) (lines : List Watched)
+    → numbers_of (wire_edged common scale first now level other lines) ≡ numbers_of lines
+numbers-edged common scale first now level other lines =
+    numbers-by (line_edged by_rows common scale first now level) (λ line. refl) other lines (slice_get lines other) refl
+
+pub edged-here :
+    (common : Common) (scale : Scale) (first now : ℕ) (level : Level) (wire : ℕ) (lines : List Watched) (line : Watched)
+    → slice_get lines wire ≡ Some line
+    → slice_get (wire_edged common scale first now level wire lines) wire
+    ≡ Some (line_edged by_rows common scale first now level line)
+edged-here common scale first now level wire lines line at =
+    here-by (line_edged by_rows common scale first now level) (λ line. refl) wire lines line at
+
+pub edged-there :
+    (common : Common) (scale : Scale) (first now : ℕ) (level : Level) (other wire : ℕ) (lines : List Watched)
+    → (other == wire) ≡ false
+    → slice_get (wire_edged common scale first now level other lines) wire ≡ slice_get lines wire
+edged-there common scale first now level other wire lines ne =
+    there-by (line_edged by_rows common scale first now level) (λ line. refl) other wire lines (slice_get lines other) ne
+
+-- what is told with an edge of another wire is nothing of a line that has one wire
+edge-told-other :
+    (common : Common) (scale : Scale) (first now line : ℕ) (level : Level) (watched : Watched)
+    → (watched.number == line) ≡ false
+    → rows_of line (line_edge_told by_rows common scale first now level watched) ≡ []
+edge-told-other common scale first now line level watched apart = by watched.contact
+  where
+    seen : Level
+    seen = level_seen watched.manner.inverted level
+
+    before : Followed
+    before = contact_before by_rows watched.manner common scale first now (other_level seen)
+
+    by :
+        (contact : Option Followed)
+        → rows_of line (edge_told by_rows watched.number watched.manner common scale first now seen contact) ≡ []
+    by None = rows_other line watched.number (flat_map day_parts (given_until before now)) apart
+    by (Some contact) = refl
+
+pub edge-rows-other :
+    (common : Common) (scale : Scale) (first now : ℕ) (level : Level) (other wire line : ℕ) (lines : List Watched)
+    → (other == wire) ≡ false → IsAlone wire line (numbers_of lines)
+    → rows_of line (wire_edge_rows common scale first now level other lines) ≡ []
+edge-rows-other common scale first now level other wire line lines ne alone = by (slice_get lines other) refl
+  where
+    by :
+        (found : Option Watched) → slice_get lines other ≡ found
+        → rows_of line (option_map_or (line_edge_told by_rows common scale first now level) found []) ≡ []
+    by None at = refl
+    by (Some watched) at =
+        let number : slice_get (numbers_of lines) other ≡ Some watched.number =
+        slice_get-map (λ (l : Watched). l.number) lines other ∙ ap (option_map (λ (l : Watched). l.number)) at in
+        edge-told-other common scale first now line level watched
+        (ne_eqb watched.number line (λ same. eqb-false other wire ne (alone other (number ∙ ap (λ n. Some n) same))))

@@ -1,3 +1,4 @@
+pub mod FaultTexts
 pub mod Names
 pub mod Wires
 pub mod Counts
@@ -14,4 +15,6 @@ pub mod Tables
 pub mod WireLines
 pub mod Program
 pub mod WireRecords
+pub mod FirstEdges
 pub mod RecordingLaws
+pub mod FirstMakes

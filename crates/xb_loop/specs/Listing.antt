@@ -2,9 +2,7 @@
 use Rattle.std.specs.Prelude.{ℕ, ◌≡◌, ◌⊎◌, ◌-◌, ◌^◌, ◌≤◌, min, List, [], ◌++◌, Bool, true, false, Option, Some, None, IfNone, IfSome, length, map, option_map, slice_get}
 use Rattle.std.specs.Io.KnownBytes.{Consumes}
 use Rattle.xb_contact.specs.declared.event.Event.{Event}
-use Rattle.xb_contact.specs.Repeats.{levels_of}
 use Rattle.xb_recording.specs.declared.format.Format.{Format}
-use Rattle.xb_recording.specs.declared.format.Format.TheVariants as formats
 use Rattle.xb_recording.specs.declared.wanted.Wanted.{Wanted}
 use Rattle.xb_recording.specs.Beginnings.{form_told, tells_nothing_yet, why_untold}
 use Rattle.xb_recording.specs.Says.{RestSays, Says, Takes, names_in}
@@ -15,28 +13,15 @@ use Rattle.xb_loop.specs.declared.listing.ListFault.{ListFault}
 use Rattle.xb_loop.specs.declared.listing.ListFault.TheVariants as faults
 use Rattle.xb_loop.specs.declared.listing.Listing.{Listing}
 use Rattle.xb_loop.specs.declared.listing.TheConstants.{MOST_BEGINNING_BYTES}
-use Rattle.xb_loop.specs.Counts.{IsCountedAfter, edges_in}
+use Rattle.xb_loop.specs.Counts.{IsCountedAfter, edges_in, said_of}
 use Rattle.xb_loop.specs.Names.{named_by, named_in}
 use Rattle.xb_loop.specs.Wires.{names_told}
-
--- each level that is said of a wire of gpiomon is an edge
-abbrev pub is_each : Format → Bool
-is_each formats.Gpiomon = true
-is_each formats.Vcd = false
-is_each formats.Sigrok = false
-is_each formats.Saleae = false
-is_each formats.Edges = false
-is_each formats.Bits = false
-is_each formats.WideBits = false
-is_each formats.Sixteen = false
-is_each formats.Wav = false
 
 -- bytes were taken, and what they say was counted
 pub record CountsOn (old : Counter) (bytes : List ℕ) (new : Counter) : Type 0 where
   pub said : List Event
   pub takes : Takes old.reader new.reader bytes said
-  pub seen : IsCountedAfter old.counts.each old.counts.seen.items said new.counts.seen.items
-  pub each : new.counts.each ≡ old.counts.each
+  pub seen : IsCountedAfter old.counts.seen.items said new.counts.seen.items
 
 -- those that an input gave
 pub record CountsMore (old new : Counter) (input left : Option (List ℕ)) : Type 0 where
@@ -48,7 +33,7 @@ pub record CountsMore (old new : Counter) (input left : Option (List ℕ)) : Typ
 pub record CountsRest (old : Counter) (text : List ℕ) (seen : List Seen) : Type 0 where
   pub events : List Event
   pub says : RestSays old.reader text events
-  pub counted : IsCountedAfter old.counts.each old.counts.seen.items events seen
+  pub counted : IsCountedAfter old.counts.seen.items events seen
 
 abbrev pub edges_of : List Seen → List ℕ
 edges_of seen = map (λ own. own.edges) seen
@@ -58,7 +43,7 @@ pub record HasEdges (format : Format) (wanted : Wanted) (text edges : List ℕ) 
   pub events : List Event
   pub said : Says format wanted text events
   pub are : (wire : ℕ) → slice_get edges wire
-      ≡ option_map (λ name. min (edges_in (is_each format) (levels_of wire events)) (2 ^ 64 - 1))
+      ≡ option_map (λ name. min (edges_in (said_of wire events)) (2 ^ 64 - 1))
       (slice_get (names_in wanted) wire)
 
 -- so have the wires of these names, by so many samples a second and this threshold, where edges may be lost
@@ -99,14 +84,14 @@ BeginsUntold beginning is_end fault = ⊥
 -- a read failed, or memory ran out
 abbrev pub IsFromOutside : ListFault → Type 0
 IsFromOutside (faults.Untold reason) = ⊥
-IsFromOutside faults.Read = Unit {0}
+IsFromOutside (faults.Read unread) = Unit {0}
 IsFromOutside faults.NoMemory = Unit {0}
 
 -- why the wires of a recording are not listed: no form is asked for, the recording tells none, and why; or a read
 -- failed, or memory ran out
 abbrev pub IsUnlisted : Option Format → List ℕ → ListFault → Type 0
 IsUnlisted asked text (faults.Untold reason) = (asked ≡ None) × (reason ≡ why_untold text) × TellsNoForm text
-IsUnlisted asked text faults.Read = Unit {0}
+IsUnlisted asked text (faults.Read unread) = Unit {0}
 IsUnlisted asked text faults.NoMemory = Unit {0}
 
 -- the wires of a recording: the names that its beginning tells, of 131,072 bytes or all of it, and their edges, if these

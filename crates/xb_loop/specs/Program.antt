@@ -24,6 +24,7 @@ use Rattle.xb_loop.specs.declared.listing.ListFault.{ListFault}
 use Rattle.xb_loop.specs.declared.listing.Listing.{Listing}
 use Rattle.xb_loop.specs.Tables.{IsBeforeRows, IsFaultOfTable, IsReleaseOf}
 use Rattle.xb_loop.specs.WireLines.{listing_text, more_note}
+use Rattle.xb_loop.specs.FaultTexts.{loop_text}
 
 -- the line before the rows
 abbrev pub header : List ℕ
@@ -102,15 +103,16 @@ pub record WritesRows (files : Bytes) (request : Request Common) (old new : Stre
 abbrev pub HadFault : Text → Bytes → Request Common → Streams → Streams → Type 0
 HadFault program files request old new =
     ((fault : LoopFault) × FailsToPrint files request fault old.input old.output new.output
-    × Tells program None old.errors new.errors)
+    × Tells program (loop_text fault) old.errors new.errors)
     ⊎ ((told : List ℕ) × (begun : Option (List ℕ)) × PrintsDeck files request told old.input old.output new.output
-    × AppendsBeginning old.errors begun told × Tells program None begun new.errors)
+    × AppendsBeginning old.errors begun told × Tells program (loop_text faults.Tell) begun new.errors)
 
 -- what is told of bounces, and the status
 abbrev pub TellsOfBounces : Text → List ℕ → Option (List ℕ) → Option (List ℕ) → ℕ → Type 0
 TellsOfBounces program told old new status =
     ((status ≡ DONE) × Appends old new told)
-    ⊎ ((status ≡ FAULT) × ((begun : Option (List ℕ)) × AppendsBeginning old begun told × Tells program None begun new))
+    ⊎ ((status ≡ FAULT) × ((begun : Option (List ℕ)) × AppendsBeginning old begun told
+    × Tells program (loop_text faults.Tell) begun new))
 
 -- the wires of an input are listed so, where its bytes are known; or this is why they are not
 abbrev pub IsListing : Request Common → Option (List ℕ) → Listing → Type 0
@@ -144,7 +146,8 @@ DeliversWires request input (Err fault) output after = ⊥
 -- it could not be told that there are more wires, and a line was told that says so
 abbrev pub IsUntold : Text → Bool → Option (List ℕ) → Option (List ℕ) → Type 0
 IsUntold program are_more old new =
-    (begun : Option (List ℕ)) × AppendsBeginning old begun (more_note are_more) × Tells program None begun new
+    (begun : Option (List ℕ)) × AppendsBeginning old begun (more_note are_more)
+    × Tells program (loop_text faults.More) begun new
 
 -- what is told of more wires, and the status
 abbrev pub TellsMore : Text → Bool → Option (List ℕ) → Option (List ℕ) → ℕ → Type 0
@@ -161,7 +164,7 @@ pub record WritesWires (request : Request Common) (old new : Streams) : Type 0 w
 abbrev pub FailsToList : Text → Request Common → Streams → Streams → Type 0
 FailsToList program request old new =
     ((fault : LoopFault) × DeliversWires request old.input (Err fault) old.output new.output
-    × Tells program None old.errors new.errors)
+    × Tells program (loop_text fault) old.errors new.errors)
     ⊎ ((are_more : Bool) × DeliversWires request old.input (Ok are_more) old.output new.output
     × IsUntold program are_more old.errors new.errors)
 

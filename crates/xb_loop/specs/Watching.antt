@@ -40,7 +40,7 @@ begun_line manner common = begun_seizing manner.seize_ms (release_of common) com
 abbrev pub begun_followed : Manner → Common → Scale → ℕ → ℕ → Level → Followed
 begun_followed manner common scale least tick level =
     followed_of (begun_at least scale common.most_ms level) (begun_bell manner common) (begun_line manner common) tick level
-    (begun_tally least level) common 0
+    (begun_tally least level) common 0 0
 
 -- a level that is said, which may be the one that it had, up to 2^64 - 1 times
 abbrev pub repeats_with : ℕ → Level → Level → ℕ
@@ -110,6 +110,13 @@ begun_watch common lines = feed.begun_watch common lines
 
 abbrev pub level_heard : Watch → Option Scale → ℕ → Level → Watch
 level_heard watch scale wire level = feed.level_heard by_rows watch scale wire level
+
+abbrev pub wire_edged : Common → Scale → ℕ → ℕ → Level → ℕ → List Watched → List Watched
+wire_edged common scale first now level wire lines = feed.wire_edged by_rows common scale first now level wire lines
+
+abbrev pub wire_edge_rows : Common → Scale → ℕ → ℕ → Level → ℕ → List Watched → List LoopRow
+wire_edge_rows common scale first now level wire lines =
+    feed.wire_edge_told by_rows common scale first now level wire lines
 
 abbrev pub event_rows : Watch → Event → List LoopRow
 event_rows watch event = feed.event_told by_rows watch event

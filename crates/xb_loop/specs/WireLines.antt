@@ -1,16 +1,7 @@
 -- The wires of a recording, a line each.
-use Rattle.std.specs.Prelude.{ℕ, ◌+◌, List, [], ◌∷◌, ◌++◌, Bool, true, false, Option, Some, None, chars, codes, decimal, encode_utf8, map, option_map, slice_get, string_bytes, if◌then◌else◌}
-use Rattle.std.specs.Char.{is_control}
-use Rattle.std.specs.List.{flat_map}
+use Rattle.std.specs.Prelude.{ℕ, ◌+◌, List, [], ◌∷◌, ◌++◌, Bool, true, false, Option, Some, None, codes, decimal, map, option_map, slice_get, string_bytes}
+use Rattle.xb_command.specs.FaultTexts.{one_line}
 use Rattle.xb_loop.specs.declared.listing.Listing.{Listing}
-
--- a character as it is told in a line: `?` (63) for a control character
-abbrev pub sign_text : ℕ → List ℕ
-sign_text sign = encode_utf8 (if is_control sign then 63 else sign)
-
--- a name in one line
-abbrev pub in_one_line : List ℕ → List ℕ
-in_one_line name = flat_map sign_text (chars name)
 
 -- how many edges a wire has, after a tab (9), where they were counted
 abbrev pub edges_text : Option ℕ → List ℕ
@@ -19,7 +10,7 @@ edges_text (Some edges) = 9 ∷ decimal edges
 
 -- a wire
 abbrev pub wire_line : List ℕ → Option ℕ → List ℕ
-wire_line name edges = in_one_line name ++ edges_text edges ++ codes "\n"
+wire_line name edges = one_line name ++ edges_text edges ++ codes "\n"
 
 -- the edges of the wire of this number, where they were counted
 abbrev pub edges_at : Option (List ℕ) → ℕ → Option ℕ

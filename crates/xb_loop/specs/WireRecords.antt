@@ -1,5 +1,5 @@
 -- What a recording says of one wire, and the rows of its line.
-use Rattle.std.specs.Prelude.{ℕ, ◌≡◌, ◌-◌, max, List, [], ◌∷◌, Bool, Option, Some, None, map, option_map, slice_get, ◌==◌, if◌then◌else◌}
+use Rattle.std.specs.Prelude.{ℕ, ◌≡◌, ◌-◌, max, List, [], ◌∷◌, Bool, Option, Some, None, map, option_map, slice_get, unwrap_or, ◌==◌, if◌then◌else◌}
 use Rattle.std.specs.Option.{option_and_then, option_map_or}
 use Rattle.xb_model.specs.Records.{rows_of}
 use Rattle.xb_model.specs.Rows.{LoopRow}
@@ -8,7 +8,7 @@ use Rattle.xb_contact.specs.declared.event.Event.TheVariants as events
 use Rattle.xb_contact.specs.declared.hold.Hold.{Hold}
 use Rattle.xb_contact.specs.declared.level.Level.{Level}
 use Rattle.xb_contact.specs.declared.scale.Scale.{Scale}
-use Rattle.xb_contact.specs.Holds.{hold_of}
+use Rattle.xb_contact.specs.Holds.{hold_of, other_level}
 use Rattle.xb_contact.specs.Listening.{all_told, begun_at}
 use Rattle.xb_contact.specs.Ringing.{all_rung}
 use Rattle.xb_contact.specs.Seizing.{all_passed}
@@ -19,7 +19,7 @@ use Rattle.xb_feed.specs.declared.tally.Bounces.{Bounces}
 use Rattle.xb_loop.specs.BounceLines.{bounces_heard}
 use Rattle.xb_loop.specs.RowsOfHolds.{written_rows}
 use Rattle.xb_feed.specs.Tallies.{begun_tally, tally_at_end}
-use Rattle.xb_feed.specs.Watching.{least_ticks, level_seen}
+use Rattle.xb_feed.specs.Watching.{begins_at, least_ticks, level_seen}
 use Rattle.xb_loop.specs.Watching.{Watched, begun_bell, begun_line, begun_watch, rows_of_events, watch_after}
 
 -- the record of a loop by its wire: how long a tick is, the level that comes first, and then how long each holds
@@ -37,24 +37,51 @@ holds_from inverted wire level now (events.At tick ∷ rest) =
     hold_of level (tick - now) ∷ holds_from inverted wire level (max now tick) rest
 holds_from inverted wire level now (events.Level other next ∷ rest) =
     holds_from inverted wire (if other == wire then level_seen inverted next else level) now rest
+holds_from inverted wire level now (events.Edge other next ∷ rest) =
+    holds_from inverted wire (if other == wire then level_seen inverted next else level) now rest
 
--- the record begins with the first level of the wire
-abbrev pub record_from : Bool → ℕ → Option Scale → ℕ → List Event → Option WireRecord
-record_from inverted wire scale now [] = None
-record_from inverted wire scale now (events.Ticks next ∷ rest) = record_from inverted wire (Some next) now rest
-record_from inverted wire scale now (events.At tick ∷ rest) = record_from inverted wire scale tick rest
-record_from inverted wire scale now (events.Level other level ∷ rest) =
+-- a record that begins with a first level
+abbrev pub record_by_level : Manner → ℕ → Scale → ℕ → Level → List Event → WireRecord
+record_by_level manner wire scale now level rest = record {
+  scale = scale;
+  first = level_seen manner.inverted level;
+  holds = holds_from manner.inverted wire (level_seen manner.inverted level) now rest;
+}
+
+-- a record whose first edge is to a level: it begins with the other level, which holds from the first tick of the recording
+-- up to the edge; a make does so for as long as a make needs to seize, or longer
+abbrev pub record_before : Manner → ℕ → Scale → ℕ → ℕ → Level → List Event → WireRecord
+record_before manner wire scale first now level rest = record {
+  scale = scale;
+  first = other_level level;
+  holds = hold_of (other_level level) (now - begins_at manner scale first now (other_level level))
+      ∷ holds_from manner.inverted wire level now rest;
+}
+
+abbrev pub record_by_edge : Manner → ℕ → Scale → ℕ → ℕ → Level → List Event → WireRecord
+record_by_edge manner wire scale first now level rest =
+    record_before manner wire scale first now (level_seen manner.inverted level) rest
+
+-- the record begins with the first level of the wire that is said, or before its first edge
+abbrev pub record_from : Manner → ℕ → Option Scale → Option ℕ → ℕ → List Event → Option WireRecord
+record_from manner wire scale first now [] = None
+record_from manner wire scale first now (events.Ticks next ∷ rest) = record_from manner wire (Some next) first now rest
+record_from manner wire scale first now (events.At tick ∷ rest) =
+    record_from manner wire scale (Some (unwrap_or first tick)) tick rest
+record_from manner wire scale first now (events.Level other level ∷ rest) =
     if other == wire
-    then option_map_or (λ ticks. Some (record {
-      scale = ticks;
-      first = level_seen inverted level;
-      holds = holds_from inverted wire (level_seen inverted level) now rest;
-    })) scale (record_from inverted wire scale now rest)
-    else record_from inverted wire scale now rest
+    then option_map_or (λ ticks. Some (record_by_level manner wire ticks now level rest)) scale
+    (record_from manner wire scale first now rest)
+    else record_from manner wire scale first now rest
+record_from manner wire scale first now (events.Edge other level ∷ rest) =
+    if other == wire
+    then option_map_or (λ ticks. Some (record_by_edge manner wire ticks (unwrap_or first now) now level rest)) scale
+    (record_from manner wire scale first now rest)
+    else record_from manner wire scale first now rest
 
 -- of all that a recording says
 abbrev pub record_of_wire : Manner → ℕ → List Event → Option WireRecord
-record_of_wire manner wire said = record_from manner.inverted wire None 0 said
+record_of_wire manner wire said = record_from manner wire None None 0 said
 
 -- the rows of its contact, and the bounces that were counted
 abbrev pub rows_of_record : Common → AskedLine → Option WireRecord → List LoopRow

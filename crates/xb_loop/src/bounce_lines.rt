@@ -1,6 +1,6 @@
 // What is told of the bounces.
 ghost use Rattle.std.specs.Prelude.{◌≡◌, ◌+◌, ◌*◌, ◌<◌, ◌++◌, OnOk, decimal, string_bytes};
-ghost use Rattle.xb_loop.specs.BounceLines.{bounce_line, bounces_noted, edges_noted, lost_line, micros_of};
+ghost use Rattle.xb_loop.specs.BounceLines.{answer_line, answers_noted, bounce_line, bounces_noted, edges_noted, lost_line, micros_of};
 
 use std::alloc::AllocError;
 use xb_contact::Scale;
@@ -59,6 +59,17 @@ fn say_lost(said: &mut String, line: LineNo, count: u64) -> Result<(), AllocErro
     write!(said, "line {number}: lost edges: {count}\n")
 }
 
+// Adds how many calls of a line are left out.
+fn say_answers(said: &mut String, line: LineNo, count: u64) -> Result<(), AllocError>
+    ensures { OnOk result (string_bytes said.new ≡ string_bytes said.old ++ answer_line line count) }
+{
+    let number = line.get();
+    write!(
+        said,
+        "line {number}: calls that answer ringing, left out: {count}\n"
+    )
+}
+
 /// Adds the bounces of a line, where these are asked for.
 pub(crate) fn note_bounces(
     is_said: bool,
@@ -89,4 +100,14 @@ pub(crate) fn note_lost(
         return Ok(());
     }
     say_lost(said, line, count)
+}
+
+/// Adds how many calls of a line are left out since they answer its bell, where some are.
+pub(crate) fn note_answers(said: &mut String, line: LineNo, count: u64) -> Result<(), AllocError>
+    ensures { OnOk result (string_bytes said.new ≡ string_bytes said.old ++ answers_noted line count) }
+{
+    if count == 0 {
+        return Ok(());
+    }
+    say_answers(said, line, count)
 }

@@ -2,14 +2,14 @@
 ghost use Rattle.std.specs.Prelude.{◌≡◌, ◌++◌, OnOk, string_bytes};
 ghost use Rattle.std.specs.List.{flat_map};
 ghost use Rattle.xb_rows.specs.WrittenRows.{record_text};
-ghost use Rattle.xb_loop.specs.Contacts.{followed_of};
+ghost use Rattle.xb_loop.specs.Contacts.{answers_by, followed_of};
 ghost use Rattle.xb_contact.specs.Machine.{pieces_of};
 ghost use Rattle.xb_contact.specs.Ringing.{piece_rung, rung_past};
 ghost use Rattle.xb_contact.specs.Seizing.{line_past, piece_passed, pieces_in};
 ghost use Rattle.xb_loop.specs.RowsOfHolds.{written_rows};
 ghost use Rattle.xb_loop.specs.Watching.{by_rows, wait_of};
 
-use crate::bounce_lines::{note_bounces, note_lost};
+use crate::bounce_lines::{note_answers, note_bounces, note_lost};
 use crate::common::Common;
 use crate::rows::write_rows;
 use std::alloc::AllocError;
@@ -33,6 +33,8 @@ pub struct Contact {
     common: Common,
     // How many levels were said of it that it had already, up to 2^64 - 1.
     repeats: u64,
+    // How many of its calls answered its bell, up to 2^64 - 1.
+    answers: u64,
 }
 
 impl Model for Contact {
@@ -40,7 +42,7 @@ impl Model for Contact {
 
     ghost Value = { Followed };
 
-    ghost view = { λ s. followed_of s.listener s.ringer s.seizer s.start s.level s.tally s.common s.repeats };
+    ghost view = { λ s. followed_of s.listener s.ringer s.seizer s.start s.level s.tally s.common s.repeats s.answers };
 }
 
 // Adds the records of a hold, if there is one.
@@ -86,6 +88,17 @@ fn write_passed(
     }
 }
 
+// How many calls answered the bell, where the line was in one before, and is in one now.
+fn answers_with(answers: u64, before: bool, after: bool) -> u64
+    ensures { result ≡ answers_by answers before after }
+{
+    if !before && after {
+        answers.saturating_add(1)
+    } else {
+        answers
+    }
+}
+
 // For how many ms after a burst an answer counts.
 fn wait_of(manner: Manner) -> u32
     ensures { result ≡ wait_of manner }
@@ -114,6 +127,7 @@ impl Follow<Common> for Contact {
             tally: Tally::new(least, level),
             common,
             repeats: 0,
+            answers: 0,
         }
     }
 
@@ -126,7 +140,10 @@ impl Follow<Common> for Contact {
         let ticks = until - self.listener.now();
         self.tally = self.tally.take(Hold { level, ticks });
         let piece = self.listener.take_until(level, until);
-        write_passed(text, line, &mut self.ringer, &mut self.seizer, piece)
+        let before = self.ringer.is_answering();
+        let written = write_passed(text, line, &mut self.ringer, &mut self.seizer, piece);
+        self.answers = answers_with(self.answers, before, self.ringer.is_answering());
+        written
     }
 
     // A level that it has already is one after an edge that was lost, where each edge says one.
@@ -137,10 +154,12 @@ impl Follow<Common> for Contact {
         self.level = level;
     }
 
-    // The short runs that were taken away, and the edges that were lost, as far as they are asked for.
+    // The short runs that were taken away, and the edges that were lost, as far as they are asked for; and the calls that
+    // are left out.
     fn note(&self, scale: Scale, line: LineNo, notes: &mut String) -> Result<(), AllocError> {
         note_bounces(self.common.said, notes, scale, line, self.tally.bounces())?;
-        note_lost(self.common.lossy, notes, line, self.repeats)
+        note_lost(self.common.lossy, notes, line, self.repeats)?;
+        note_answers(notes, line, self.answers)
     }
 
     fn end(self, line: LineNo, text: &mut String) -> Result<(), AllocError> {

@@ -6,6 +6,8 @@ ghost use Rattle.xb_loop.specs.WireRecords.{GivesEachRecord};
 ghost use Rattle.xb_loop.specs.TapeLaws.{HearsNothingOtherwise, KeepsTheTape, LeavesLongRunsTheirTape};
 ghost use Rattle.xb_loop.specs.Constants.{AreConstants};
 ghost use Rattle.xb_loop.specs.Counts.{EdgesAreSeen};
+ghost use Rattle.xb_loop.specs.FirstEdges.{FirstEdgesTell, MakesBeforeSeize};
+ghost use Rattle.xb_loop.specs.FirstMakes.{FirstMakesAreHeard};
 
 /// The record that the chain makes of a line's rows, neighbours joined, is the settled record of its contact in
 /// ms, each time rounded once. So where short bounces disturb a clean record, the chain hears the clean one,
@@ -56,13 +58,23 @@ pub fn the_tape_of_a_recording_is_kept()
     ensures once { AsksForEachOnce }
 {}
 
-/// How many names are kept, and of how many columns the numbers are taken.
+/// How many names are kept, of how many columns the numbers are taken, how many first bytes tell them, and how many
+/// nanoseconds a ms has.
 pub fn constants()
     ensures { AreConstants }
 {}
 
-/// What is counted of a wire are its edges: the levels that are said of it, or those that are other ones than the
-/// one before, up to 2^64 - 1.
+/// Where the first that is said of a wire is an edge, the record of the wire begins with the level that this edge
+/// leaves (`tells`); a make there lasts for as long as a make needs to settle and to seize (`seizes`). Such a make is the
+/// first that the chain hears (`heard`).
+pub fn the_first_edge_tells_the_level_before()
+    ensures tells { FirstEdgesTell }
+    ensures seizes { MakesBeforeSeize }
+    ensures heard { FirstMakesAreHeard }
+{}
+
+/// What is counted of a wire are its edges: those that are said of it, and levels that are other ones than the one
+/// before, up to 2^64 - 1.
 pub fn edges_are_seen()
     ensures { EdgesAreSeen }
 {}

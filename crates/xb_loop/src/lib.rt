@@ -50,6 +50,5 @@ pub use fault::LoopFault;
 pub use found_names::wires_named;
 pub use listing::{ListFault, Listing, list_wires};
 pub use names::WireNames;
-pub use program::attend;
 pub use rows::contact_of;
 pub use words::{Asked, PROGRAM};

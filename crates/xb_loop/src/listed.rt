@@ -1,26 +1,19 @@
 // The wires of a recording, a line each.
 ghost use Rattle.std.specs.Prelude.{◌≡◌, ◌++◌, IfOk, OnOk, map, option_map, string_bytes};
-ghost use Rattle.xb_loop.specs.WireLines.{edges_text, in_one_line, lines_from, listing_text, sign_text, wire_line};
+ghost use Rattle.xb_command.specs.FaultTexts.{one_line};
+ghost use Rattle.xb_loop.specs.WireLines.{edges_text, lines_from, listing_text, wire_line};
 
 use crate::Listing;
+use crate::listing::lent;
 use crate::wires::edges_at;
 use std::alloc::{AllocError, Global};
-
-// Adds a character: a control character, as an LF or an escape, as `?`.
-fn push_sign(text: &mut String, sign: char) -> Result<(), AllocError>
-    ensures { OnOk result (string_bytes text.new ≡ string_bytes text.old ++ sign_text sign) }
-{
-    text.push(if sign.is_control() { '?' } else { sign })
-}
+use xb_command::InOneLine;
 
 // Adds a name in one line.
 fn push_name(text: &mut String, name: &str) -> Result<(), AllocError>
-    ensures { OnOk result (string_bytes text.new ≡ string_bytes text.old ++ in_one_line name.now) }
+    ensures { OnOk result (string_bytes text.new ≡ string_bytes text.old ++ one_line name.now) }
 {
-    for sign in name.chars() {
-        push_sign(text, sign)?;
-    }
-    Ok(())
+    write!(text, "{}", InOneLine(name))
 }
 
 // Adds how many edges a wire has, after a tab, where they were counted.
@@ -51,17 +44,6 @@ fn push_wires(text: &mut String, names: &[&str], edges: &Option<Vec<u64>>) -> Re
         push_wire(text, name, edges_at(edges, wire))?;
     }
     Ok(())
-}
-
-// Names as texts that are lent.
-fn lent<'b>(alloc: Global, names: &'b [String]) -> Result<Vec<&'b str>, AllocError>
-    ensures { IfOk result (λ lent. map (λ name. name.now) lent.items ≡ map string_bytes names.now) }
-{
-    let mut lent = Vec::new(alloc);
-    for name in names {
-        lent.push(name.as_str())?;
-    }
-    Ok(lent)
 }
 
 /// The wires of a recording, a line each: the name in one line, and after a tab how many edges it has, where these were

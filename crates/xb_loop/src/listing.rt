@@ -1,17 +1,19 @@
 // The wires of a recording, with how many edges each has.
-ghost use Rattle.std.specs.Prelude.{◌≡◌, ◌<◌, ◌≤◌, ◌++◌, ◌∷◌, [], ℕ, None, Ok, Some, IfErr, IfNone, IfOk, IfSome, List, OnOk, false, length, map, string_bytes, take, true};
+ghost use Rattle.std.specs.Prelude.{◌≡◌, ◌≤◌, ◌++◌, ◌∷◌, [], ℕ, None, Some, IfErr, IfNone, IfOk, IfSome, List, OnOk, false, length, map, string_bytes, true};
 ghost use Rattle.std.specs.Io.KnownBytes.{Consumes, IsAtEnd, prepend_known};
 ghost use Rattle.xb_recording.specs.Beginnings.{form_told};
 ghost use Rattle.xb_recording.specs.Says.{is_text};
-ghost use Rattle.xb_loop.specs.Listing.{CountsMore, CountsOn, CountsRest, BeginsUntold, HasEdges, IsCount, IsFromOutside, IsUnlisted, ListsWires, edges_of, is_each};
+ghost use Rattle.xb_loop.specs.Listing.{CountsMore, CountsOn, CountsRest, BeginsUntold, HasEdges, IsCount, IsFromOutside, IsUnlisted, ListsWires, edges_of};
 
 use crate::counts::EdgeCounts;
 use crate::found_names::wires_named;
 use crate::names::WireNames;
 use std::alloc::{AllocError, Global};
+use std::fmt;
 use std::io::Read;
 use thiserror::Error;
 use xb_contact::{Event, Refusal};
+use xb_feed::{Reads, Unread, read_once};
 use xb_recording::{Format, Reader, Told, Wanted, told_format, why_untold};
 use xb_samples::Threshold;
 
@@ -34,14 +36,26 @@ pub struct Listing {
 #[derive(Debug, Drop, Error)]
 pub enum ListFault {
     /// Its form is told by nothing, or it is a file of several.
-    #[error("the recording: {0}")]
     Untold(Refusal),
-    /// A read failed, an interrupted one too.
-    #[error("the recording could not be read")]
-    Read,
+    /// A read failed, an interrupted one too, or the recording had not ended after 2^64 - 1 reads.
+    Read(Unread),
     /// Memory ran out.
-    #[error("out of memory")]
     NoMemory,
+}
+
+impl fmt::Display for ListFault {
+    ghost use Rattle.std.specs.Prelude.{Some};
+    ghost use Rattle.xb_loop.specs.FaultTexts.{list_text};
+
+    ghost output = { λ fault. Some (list_text fault) };
+
+    fn fmt<W: fmt::Write>(&self, f: &mut fmt::Formatter<W>) -> fmt::Result {
+        match self {
+            ListFault::Untold(refusal) => write!(f, "the recording: {refusal}"),
+            ListFault::Read(_) => f.write_str("the recording could not be read"),
+            ListFault::NoMemory => f.write_str("out of memory"),
+        }
+    }
 }
 
 impl From<AllocError> for ListFault {
@@ -54,17 +68,13 @@ impl From<AllocError> for ListFault {
     }
 }
 
-// A read that failed.
-#[derive(Clone, Copy)]
-struct ReadFailed;
-
-impl From<ReadFailed> for ListFault {
+impl From<Unread> for ListFault {
     ghost use Rattle.xb_loop.specs.declared.listing.ListFault.TheVariants.{Read};
 
-    ghost from_gives = { λ _ e. e ≡ Read };
+    ghost from_gives = { λ unread e. e ≡ Read unread };
 
-    fn from(_failed: ReadFailed) -> ListFault {
-        ListFault::Read
+    fn from(unread: Unread) -> ListFault {
+        ListFault::Read(unread)
     }
 }
 
@@ -74,7 +84,7 @@ enum CountFault {
     // It is refused.
     Refused(Refusal),
     // A read failed.
-    Read,
+    Read(Unread),
     // Memory ran out.
     NoMemory,
 }
@@ -99,26 +109,13 @@ impl From<Refusal> for CountFault {
     }
 }
 
-impl From<ReadFailed> for CountFault {
+impl From<Unread> for CountFault {
     ghost use Rattle.xb_loop.specs.declared.listing.CountFault.TheVariants.{Read};
 
-    ghost from_gives = { λ _ e. e ≡ Read };
+    ghost from_gives = { λ unread e. e ≡ Read unread };
 
-    fn from(_failed: ReadFailed) -> CountFault {
-        CountFault::Read
-    }
-}
-
-// Reads once.
-fn read_once<R: Read>(input: &mut R, buffer: &mut [u8]) -> Result<usize, ReadFailed>
-    ensures within { IfOk result (λ n. n ≤ length buffer.old) }
-    ensures bytes { IfOk result (λ n.
-        Consumes (R.remaining input.old) (R.remaining input.new) (take n buffer.new)) }
-    ensures end { result ≡ Ok 0 → 0 < length buffer.old → IsAtEnd (R.remaining input.new) }
-{
-    match input.read(buffer) {
-        Ok(n) => Ok(n),
-        Err(_) => Err(ReadFailed),
+    fn from(unread: Unread) -> CountFault {
+        CountFault::Read(unread)
     }
 }
 
@@ -216,14 +213,14 @@ impl<'a> Counter<'a> {
         ensures end { OnOk result (IsAtEnd (R.remaining input.new)) }
     {
         let mut buffer = [0u8; BUFFER_BYTES];
-        for _ in 0..u64::MAX {
-            let n = read_once(input, &mut buffer)?;
+        let mut reads = Reads::new();
+        'pieces: loop {
+            let n = reads.read_once(input, &mut buffer)?;
             if n == 0 {
                 return Ok(());
             }
             self.take(&buffer[..n])?;
         }
-        Err(CountFault::Read)
     }
 
     // The end of the recording.
@@ -244,13 +241,6 @@ impl<'a> Counter<'a> {
         self.take_all(input)?;
         self.end()
     }
-}
-
-// Whether each level that is said is an edge.
-fn is_each(format: Format) -> bool
-    ensures { result ≡ is_each format }
-{
-    format == Format::Gpiomon
 }
 
 // The edges that were counted, in order.
@@ -277,7 +267,7 @@ fn count<R: Read>(
 {
     let mut events = Vec::new(alloc);
     let reader = Reader::new(alloc, wanted, format, &mut events)?;
-    let mut counts = EdgeCounts::new(alloc, is_each(format), wanted.wires.len())?;
+    let mut counts = EdgeCounts::new(alloc, wanted.wires.len())?;
     counts.take(&events);
     let mut counter = Counter {
         reader,
@@ -288,8 +278,8 @@ fn count<R: Read>(
     Ok(edges_of(alloc, &counter.counts)?)
 }
 
-// Names as texts that are lent.
-fn lent<'b>(alloc: Global, names: &'b [String]) -> Result<Vec<&'b str>, AllocError>
+/// Names as texts that are lent.
+pub(crate) fn lent<'b>(alloc: Global, names: &'b [String]) -> Result<Vec<&'b str>, AllocError>
     ensures { IfOk result (λ lent. map (λ name. name.now) lent.items ≡ map string_bytes names.now) }
 {
     let mut lent = Vec::new(alloc);
@@ -325,7 +315,7 @@ fn edges_named<R: Read>(
             Err(ListFault::NoMemory)
         }
         Err(CountFault::Refused(_)) => Ok(None),
-        Err(CountFault::Read) => Err(ListFault::Read),
+        Err(CountFault::Read(unread)) => Err(ListFault::Read(unread)),
     }
 }
 

@@ -1,9 +1,7 @@
 // The program: its words and a recording in, a status and rows out.
-ghost use Rattle.std.specs.Prelude.{◌≡◌, ◌==◌, false, IfErr, IfOk, IfSome, OnOk, length, map, string_bytes, true};
+ghost use Rattle.std.specs.Prelude.{◌≡◌, ◌==◌, false, IfErr, IfOk, IfSome, OnOk, length, map, string_bytes};
 ghost use Rattle.xb_command.specs.Programs.{streams};
-ghost use Rattle.xb_command.specs.Tables.{command_by};
-ghost use Rattle.xb_command.specs.Works.{AttendsBy, Runs};
-ghost use Rattle.clap.specs.Faults.{is_simple_and_free};
+ghost use Rattle.xb_command.specs.Works.{Runs};
 ghost use Rattle.xb_loop.specs.Program.{DeliversWires, FailsToList, FailsToPrint, HadFault, IsFaultOfRecording, IsListed, PrintsDeck, TellsMore, TellsOfBounces, TellsWires, WritesListing, WritesRows, WritesWires, by_loop};
 
 use crate::common::Common;
@@ -16,7 +14,7 @@ use crate::{Listing, list_wires};
 use std::alloc::Global;
 use std::io::{Read, Write};
 use xb_command::{
-    Answer, Call, DONE, Files, Program, Source, Work, ask_words, file_source, tell_fault,
+    Answer, Call, DONE, Files, Given, Program, Source, Words, Work, file_source, tell_fault,
 };
 use xb_feed::{AskedLine, RecordingFault, Request, listen, missing_name};
 use xb_text::write_whole;
@@ -187,49 +185,26 @@ impl<'a> Work<'a> for Asked<'a> {
 
     ghost rules = { by_loop };
 
-    fn ask(alloc: Global, call: &Call<'a>) -> Result<Asked<'a>, Answer<'a>> {
-        match ask_words(alloc, call) {
-            Ok(words) => asked_of(alloc, &words),
-            Err(answer) => Err(answer),
-        }
+    fn ask(alloc: Global, _call: &Call<'a>, words: &Words<'a>) -> Result<Asked<'a>, Answer<'a>> {
+        asked_of(alloc, words)
     }
 
     fn source(&self) -> Source<'a> {
         file_source(self.request.recording)
     }
 
-    fn run<F: Files, R: Read, W: Write, E: Write>(
-        self,
-        alloc: Global,
-        program: &Program<'a>,
-        files: &F,
-        input: &mut R,
-        out: &mut W,
-        err: &mut E,
-    ) -> u8 {
+    fn run<F: Files, R: Read, W: Write, E: Write>(self, given: Given<'_, 'a, F, R, W, E>) -> u8 {
+        let Given {
+            alloc,
+            program,
+            input,
+            out,
+            err,
+            files,
+        } = given;
         if self.list {
-            answer_wires(alloc, &self.request, program, input, out, err)
-        } else {
-            answer_rows(alloc, files, self.request, program, input, out, err)
+            return answer_wires(alloc, &self.request, program, input, out, err);
         }
+        answer_rows(alloc, files, self.request, program, input, out, err)
     }
-}
-
-/// Reads the words of the command line, and by them writes the loop rows of a recording as it comes, as `listen` does,
-/// after a route table where one is named, or its wires, as `list_wires` tells them. It returns the status of the
-/// process, as `attend` of `xb_command` says.
-pub fn attend<F: Files, R: Read, W: Write, E: Write>(
-    alloc: Global,
-    call: &Call<'_>,
-    files: &F,
-    input: &mut R,
-    out: &mut W,
-    err: &mut E,
-) -> u8
-    requires { is_simple_and_free (command_by call.now.program.now) ≡ true }
-    ensures { AttendsBy by_loop call.now (F.bytes files.now)
-        (streams (R.remaining input.old) (W.contents out.old) (E.contents err.old))
-        (streams (R.remaining input.new) (W.contents out.new) (E.contents err.new)) result }
-{
-    xb_command::attend::<Asked<'_>, F, R, W, E>(alloc, call, files, input, out, err)
 }

@@ -4,7 +4,7 @@ ghost use Rattle.xb_loop.specs.WireLines.{edges_at};
 
 use crate::Listing;
 use std::fmt;
-use xb_feed::InOneLine;
+use xb_command::InOneLine;
 
 /// The names of wires in one line, each with its edges, where these were counted.
 #[derive(Clone, Copy)]

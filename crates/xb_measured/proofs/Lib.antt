@@ -14,3 +14,4 @@ pub mod DoubtTexts
 pub mod EntryValues
 pub mod BlockSums
 pub mod TakenBlocks
+pub mod FigureLaws

@@ -7,7 +7,7 @@ use Rattle.std.proofs.lemmas.Bool.{leb-true, lt-leb}
 use Rattle.std.proofs.lemmas.Int.{ints, to_z-of_z, fits_signed_from_abs}
 use Rattle.std.proofs.lemmas.Nat.{mul-le}
 use Rattle.xb_measured.specs.declared.heard.MeasuredTone.{MeasuredTone}
-use Rattle.xb_measured.specs.declared.waves.Sums.{Sums}
+use Rattle.xb_measured.specs.declared.wave_sums.Sums.{Sums}
 use Rattle.xb_measured.specs.Levels.{count_up_to}
 use Rattle.xb_measured.specs.Tones.{across, along, gains, hz_with, level_of, off_of, tangents, tone_by}
 

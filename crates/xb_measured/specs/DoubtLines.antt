@@ -1,8 +1,6 @@
 -- The lines of what is doubtful of a keying, and of a key that stands in none.
-use Rattle.std.specs.Prelude.{ℕ, ◌-◌, List, [], ◌∷◌, ◌++◌, codes, decimal}
-use Rattle.std.specs.List.{flat_map}
+use Rattle.std.specs.Prelude.{ℕ, ◌-◌, List, [], ◌∷◌, ◌++◌, codes, decimal, if◌then◌else◌, length, nat_le}
 use Rattle.xb_measured.specs.declared.heard.Heard.{Heard}
-use Rattle.xb_measured.specs.declared.verdicts.TheConstants.{MOST_OFF_MS}
 use Rattle.xb_measured.specs.Figures.{start_ms}
 use Rattle.xb_measured.specs.Meanings.{meaning_of, name_text}
 use Rattle.xb_measured.specs.Seconds.{seconds_text}
@@ -14,19 +12,24 @@ use Rattle.xb_measured.specs.declared.doubts.Effect.TheVariants as effects
 use Rattle.xb_measured.specs.Doubts.{doubts_of}
 
 -- what is doubtful, in words
+abbrev pub gap_reason : ℕ → ℕ → ℕ → List ℕ
+gap_reason key ms usual =
+    decimal ms ++ (codes " ms between its keys " ++ (decimal (key - 1) ++ (codes " and " ++ (decimal key
+    ++ (codes ", where " ++ (decimal usual ++ codes " are usual"))))))
+
 abbrev pub length_reason : ℕ → ℕ → ℕ → List ℕ
-length_reason key ms wanted =
-    codes "its key " ++ (decimal key ++ (codes " lasts " ++ (decimal ms ++ (codes " ms, not " ++ (decimal wanted
-    ++ (codes " give or take " ++ decimal MOST_OFF_MS))))))
+length_reason key ms usual =
+    codes "its key " ++ (decimal key ++ (codes " lasts " ++ (decimal ms ++ (codes " ms, where " ++ (decimal usual
+    ++ codes " are usual")))))
 
 abbrev pub reason_with : DoubtKind → ℕ → ℕ → ℕ → List ℕ
-reason_with kinds.LongGap key ms wanted =
-    decimal ms ++ (codes " ms between its keys " ++ (decimal (key - 1) ++ (codes " and " ++ decimal key)))
-reason_with kinds.LongKey key ms wanted = length_reason key ms wanted
-reason_with kinds.ShortKey key ms wanted = length_reason key ms wanted
+reason_with kinds.LongGap key ms usual = gap_reason key ms usual
+reason_with kinds.ShortGap key ms usual = gap_reason key ms usual
+reason_with kinds.LongKey key ms usual = length_reason key ms usual
+reason_with kinds.ShortKey key ms usual = length_reason key ms usual
 
 abbrev pub reason_text : Doubt → List ℕ
-reason_text d = reason_with d.kind d.key d.ms d.wanted
+reason_text d = reason_with d.kind d.key d.ms d.usual
 
 -- and what may be wrong
 abbrev pub effect_text : Effect → List ℕ
@@ -34,14 +37,20 @@ effect_text effects.Missing = codes "one may be missing"
 effect_text effects.Extra = codes "one may be too many"
 effect_text effects.Cut = codes "it may be cut"
 
--- the line of a doubt of an entry of this number, which begins then
-abbrev pub doubt_line : ℕ → ℕ → Doubt → List ℕ
-doubt_line entry at d =
-    codes "mfrx: entry " ++ (decimal entry ++ (codes " at " ++ (seconds_text at ++ (codes " s: " ++ (reason_text d
-    ++ (codes ": " ++ (effect_text d.effect ++ codes "\n")))))))
+-- of how many doubts it is the first
+abbrev pub count_text : ℕ → List ℕ
+count_text count = if nat_le count 1 then [] else codes "; the first of " ++ (decimal count ++ codes " doubts")
 
+-- the line of the first of so many doubts of an entry of this number, which begins then
+abbrev pub doubt_line : ℕ → ℕ → ℕ → Doubt → List ℕ
+doubt_line entry at count d =
+    codes "mfrx: entry " ++ (decimal entry ++ (codes " at " ++ (seconds_text at ++ (codes " s: " ++ (reason_text d
+    ++ (codes ": " ++ (effect_text d.effect ++ (count_text count ++ codes "\n"))))))))
+
+-- an entry has one line, where something is doubtful of it
 abbrev pub doubt_lines : ℕ → ℕ → List Doubt → List ℕ
-doubt_lines entry at doubts = flat_map (doubt_line entry at) doubts
+doubt_lines entry at [] = []
+doubt_lines entry at (d ∷ ds) = doubt_line entry at (length (d ∷ ds)) d
 
 -- a keying begins with its first key
 abbrev pub began_ms : List Heard → ℕ

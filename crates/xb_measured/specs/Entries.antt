@@ -1,8 +1,7 @@
 -- The JSON object of a keying that was heard, as an entry.
-use Rattle.std.specs.Prelude.{ℕ, List, ◌++◌, ◌-◌, codes, length, map, option_map, slice_get, unwrap_or}
+use Rattle.std.specs.Prelude.{ℕ, List, ◌-◌, codes, length, map, option_map, slice_get, unwrap_or}
 use Rattle.serde_json.specs.Data.{Data, array, member, no_members, number, object, string, unsigned}
 use Rattle.serde_json.specs.View.{items_of}
-use Rattle.serde_json.specs.Written.{compact_text}
 use Rattle.xb_measured.specs.declared.heard.Heard.{Heard}
 use Rattle.xb_json.specs.Keys.{digits_text, keys_of}
 use Rattle.xb_measured.specs.Figures.{end_ms}
@@ -17,6 +16,7 @@ use Rattle.xb_measured.specs.Keyings.{digits_in}
 
 abbrev pub kind_word : DoubtKind → List ℕ
 kind_word kinds.LongGap = codes "LONG_GAP"
+kind_word kinds.ShortGap = codes "SHORT_GAP"
 kind_word kinds.LongKey = codes "LONG_KEY"
 kind_word kinds.ShortKey = codes "SHORT_KEY"
 
@@ -25,14 +25,14 @@ effect_word effects.Missing = codes "MISSING"
 effect_word effects.Extra = codes "EXTRA"
 effect_word effects.Cut = codes "CUT"
 
--- a doubt: the number of the key, which limit it breaks, what may be wrong, how many ms it has, and how many it should
+-- a doubt: the number of the key, what does not keep to the rhythm, what may be wrong, its ms, and those that are usual
 abbrev pub doubt_object : Doubt → Data
 doubt_object d = object
     (member (codes "key") (number (unsigned d.key))
     (member (codes "kind") (string (kind_word d.kind))
     (member (codes "may_be") (string (effect_word d.effect))
     (member (codes "ms") (number (unsigned d.ms))
-    (member (codes "wanted_ms") (number (unsigned d.wanted)) no_members)))))
+    (member (codes "usual_ms") (number (unsigned d.usual)) no_members)))))
 
 -- a keying ends with its last key
 abbrev pub ended_ms : List Heard → ℕ
@@ -53,7 +53,3 @@ abbrev pub entry_object : ℕ → List Heard → Data
 entry_object n keys =
     entry_of_parts n (began_ms keys) (ended_ms keys) (digits_in keys)
     (array (items_of (map doubt_object (doubts_of keys))))
-
--- the object as a line
-abbrev pub entry_line : ℕ → List Heard → List ℕ
-entry_line n keys = compact_text (entry_object n keys) ++ codes "\n"

@@ -1,8 +1,7 @@
 -- The JSON object of a key.
-use Rattle.std.specs.Prelude.{ℕ, List, ◌++◌, codes, Option, Some, None, pos, ◌-ℤ◌}
+use Rattle.std.specs.Prelude.{ℕ, List, codes, Option, Some, None, pos, ◌-ℤ◌}
 use Rattle.serde_json.specs.Data.{Data, member, no_members, null, number, object, string, unsigned}
 use Rattle.serde_json.specs.Find.{of_integer}
-use Rattle.serde_json.specs.Written.{compact_text}
 use Rattle.xb_measured.specs.declared.heard.Onsets.{Onsets}
 use Rattle.xb_measured.specs.declared.figures.Figures.{Figures}
 use Rattle.xb_measured.specs.declared.levels.TheConstants.{ZERO_DBM0}
@@ -41,7 +40,3 @@ object_with figures verdict = object
 
 abbrev pub object_of : Figures → Data
 object_of figures = object_with figures (verdict_text (misses figures))
-
--- the object as a line
-abbrev pub object_line : Figures → List ℕ
-object_line figures = compact_text (object_of figures) ++ codes "\n"

@@ -1,7 +1,7 @@
 -- The frequency and the level of a tone, in 200 samples.
 use Rattle.std.specs.Prelude.{ℕ, ◌+◌, ◌-◌, ◌*◌, ◌/◌, ◌^◌, ◌≤◌, List, [], ◌∷◌, drop, take, if◌then◌else◌, int_le, int_lt, slice_index_or, ℤ, pos, ◌+ℤ◌, ◌-ℤ◌, ◌*ℤ◌, unsigned_abs}
 use Rattle.xb_measured.specs.declared.heard.MeasuredTone.{MeasuredTone}
-use Rattle.xb_measured.specs.declared.waves.Sums.{Sums}
+use Rattle.xb_measured.specs.declared.wave_sums.Sums.{Sums}
 use Rattle.xb_measured.specs.Levels.{count_up_to}
 use Rattle.xb_measured.specs.Waves.{sums_of}
 

@@ -1,7 +1,7 @@
 -- Sums of weighted samples with a wave.
 use Rattle.std.specs.Prelude.{ℕ, ◌+◌, ◌*◌, ◌/◌, ◌%◌, List, [], ◌∷◌, ◌++◌, reverse, ℤ, pos, ◌+ℤ◌, ◌*ℤ◌}
 use Rattle.xb_sound.specs.Sines.{sine_at}
-use Rattle.xb_measured.specs.declared.waves.Sums.{Sums}
+use Rattle.xb_measured.specs.declared.wave_sums.Sums.{Sums}
 
 -- a raised cosine rises from 0 to 2,000 through 80 samples: 1,000 times what 1 is above the cosine of 1.125 degrees, of
 -- 3.375 and so on to 178.875, each rounded

@@ -2,26 +2,26 @@
 ghost use Rattle.std.specs.Prelude.{◌≡◌, ◌≤◌, ◌<◌, ◌*◌, ◌^◌, length};
 ghost use Rattle.xb_measured.specs.ButtonBlocks.{has_digit, power, strongest};
 
-use crate::correlation::level;
+use crate::button_tone::level;
 use xb_ear::squares;
 
 /// The four low frequencies, in Hz (ITU-T Q.23).
-pub const LOW: [u16; 4] = [697, 770, 852, 941];
+pub(crate) const LOW: [u16; 4] = [697, 770, 852, 941];
 
 /// The four high ones.
-pub const HIGH: [u16; 4] = [1_209, 1_336, 1_477, 1_633];
+pub(crate) const HIGH: [u16; 4] = [1_209, 1_336, 1_477, 1_633];
 
 /// The least level of a tone: an amplitude of 500, or -33 dBm0, as of a key.
-pub const LEAST_LEVEL: u64 = 250_000;
+pub(crate) const LEAST_LEVEL: u64 = 250_000;
 
 /// One tone may have so many times the other's level: 12 dB.
-pub const TWIST: u64 = 16;
+pub(crate) const TWIST: u64 = 16;
 
 /// The two tones hold at least this share of the power of a block, 3 of 4.
-pub const SHARE: u64 = 3;
+pub(crate) const SHARE: u64 = 3;
 
 /// See `SHARE`.
-pub const SHARE_OF: u64 = 4;
+pub(crate) const SHARE_OF: u64 = 4;
 
 // The level of the strongest of frequencies.
 fn strongest(block: &[i16], frequencies: &[u16]) -> u64

@@ -6,7 +6,7 @@ use arrayvec::ArrayVec;
 use std::marker::Model;
 
 /// How many samples a block has: 20 ms.
-pub const BLOCK: usize = 160;
+pub(crate) const BLOCK: usize = 160;
 
 /// In how many blocks of a sound a digit of a push-button telephone sounds, as its samples come.
 #[derive(Drop)]

@@ -1,12 +1,11 @@
 // The lines of doubts.
 ghost use Rattle.std.specs.Prelude.{◌≡◌, IfOk, string_bytes};
-ghost use Rattle.xb_measured.specs.DoubtLines.{began_ms, doubt_lines, doubts_text, length_reason};
+ghost use Rattle.xb_measured.specs.DoubtLines.{began_ms, count_text, doubt_lines, doubts_text, gap_reason, length_reason};
 
 use crate::doubts::{Doubt, DoubtKind, Effect, doubts_of};
 use crate::figures::start_ms;
 use crate::keys::NamedKey;
 use crate::seconds::seconds_text;
-use crate::verdicts::MOST_OFF_MS;
 use std::alloc::{AllocError, Global};
 
 impl Effect {
@@ -25,12 +24,29 @@ impl Effect {
     }
 }
 
-// That a key lasts so long, and not as long as it is keyed.
-fn length_reason(alloc: Global, key: usize, ms: u64, wanted: u64) -> Result<String, AllocError>
-    ensures { IfOk result (λ text. string_bytes text ≡ length_reason key ms wanted) }
+// That so much time lies before a key, and not as much as is usual.
+fn gap_reason(alloc: Global, key: usize, ms: u64, usual: u64) -> Result<String, AllocError>
+    ensures { IfOk result (λ text. string_bytes text ≡ gap_reason key ms usual) }
 {
-    let off = MOST_OFF_MS;
-    format!(in alloc; "its key {key} lasts {ms} ms, not {wanted} give or take {off}")
+    let before = key.saturating_sub(1);
+    format!(in alloc; "{ms} ms between its keys {before} and {key}, where {usual} are usual")
+}
+
+// That a key lasts so long, and not as long as is usual.
+fn length_reason(alloc: Global, key: usize, ms: u64, usual: u64) -> Result<String, AllocError>
+    ensures { IfOk result (λ text. string_bytes text ≡ length_reason key ms usual) }
+{
+    format!(in alloc; "its key {key} lasts {ms} ms, where {usual} are usual")
+}
+
+// Of how many doubts it is the first.
+fn count_text(alloc: Global, count: usize) -> Result<String, AllocError>
+    ensures { IfOk result (λ text. string_bytes text ≡ count_text count) }
+{
+    if count <= 1 {
+        return Ok(String::new(alloc));
+    }
+    format!(in alloc; "; the first of {count} doubts")
 }
 
 impl Doubt {
@@ -41,39 +57,34 @@ impl Doubt {
     fn reason(self, alloc: Global) -> Result<String, AllocError>
         ensures { IfOk result (λ text. string_bytes text ≡ reason_text self) }
     {
-        let key = self.key;
-        let ms = self.ms;
         match self.kind {
-            DoubtKind::LongGap => {
-                let before = key.saturating_sub(1);
-                format!(in alloc; "{ms} ms between its keys {before} and {key}")
-            }
-            DoubtKind::LongKey => length_reason(alloc, key, ms, self.wanted),
-            DoubtKind::ShortKey => length_reason(alloc, key, ms, self.wanted),
+            DoubtKind::LongGap => gap_reason(alloc, self.key, self.ms, self.usual),
+            DoubtKind::ShortGap => gap_reason(alloc, self.key, self.ms, self.usual),
+            DoubtKind::LongKey => length_reason(alloc, self.key, self.ms, self.usual),
+            DoubtKind::ShortKey => length_reason(alloc, self.key, self.ms, self.usual),
         }
     }
 
-    // The line of it, of the entry of this number, which begins at so many ms.
-    fn line(self, alloc: Global, entry: usize, at: u64) -> Result<String, AllocError>
-        ensures { IfOk result (λ text. string_bytes text ≡ doubt_line entry at self) }
+    // The line of it, the first of so many, of the entry of this number, which begins at so many ms.
+    fn line(self, alloc: Global, entry: usize, at: u64, count: usize) -> Result<String, AllocError>
+        ensures { IfOk result (λ text. string_bytes text ≡ doubt_line entry at count self) }
     {
         let place = seconds_text(alloc, at)?;
         let reason = self.reason(alloc)?;
         let effect = self.effect.text();
-        format!(in alloc; "mfrx: entry {entry} at {place} s: {reason}: {effect}\n")
+        let of = count_text(alloc, count)?;
+        format!(in alloc; "mfrx: entry {entry} at {place} s: {reason}: {effect}{of}\n")
     }
 }
 
-// The lines of doubts.
+// The line of doubts, where there are any.
 fn doubt_lines(alloc: Global, entry: usize, at: u64, doubts: &[Doubt]) -> Result<String, AllocError>
     ensures { IfOk result (λ text. string_bytes text ≡ doubt_lines entry at doubts.now) }
 {
-    let mut text = String::new(alloc);
-    for doubt in doubts {
-        let line = doubt.line(alloc, entry, at)?;
-        text.push_str(&line)?;
+    match doubts.first() {
+        None => Ok(String::new(alloc)),
+        Some(first) => first.line(alloc, entry, at, doubts.len()),
     }
-    Ok(text)
 }
 
 /// When a keying begins, in ms; 0 where there is no key.
@@ -86,7 +97,8 @@ pub fn began_ms(keys: &[NamedKey]) -> u64
     }
 }
 
-/// What is told of the doubts of a keying, the entry of this number: a line for each. `Err` says that memory ran out.
+/// What is told of the doubts of a keying, the entry of this number: a line with the first one, and of how many it is
+/// the first. `Err` says that memory ran out.
 pub fn doubts_text(alloc: Global, entry: usize, keys: &[NamedKey]) -> Result<String, AllocError>
     ensures { IfOk result (λ text. string_bytes text ≡ doubts_text entry keys.now) }
 {

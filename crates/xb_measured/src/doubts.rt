@@ -1,43 +1,41 @@
 // Why a keying that was heard may be another one.
-ghost use Rattle.std.specs.Prelude.{◌≡◌, ◌++◌, IfOk, OnOk};
-ghost use Rattle.xb_measured.specs.Doubts.{doubts_of, gap_doubts, length_doubt, length_doubts, listed_doubt, short_effect, wanted_ms};
+ghost use Rattle.std.specs.Prelude.{◌≡◌, ◌++◌, None, IfOk, OnOk};
+ghost use Rattle.xb_measured.specs.Doubts.{doubt, doubts_after, doubts_of, gap_doubts, gap_doubts_by, length_doubts, length_doubts_by, listed_doubt, short_effect};
 
 use crate::figures::{Figures, figures_of};
 use crate::keys::{NamedKey, begins_keying, digit_by};
 use crate::meaning::Meaning;
-use crate::verdicts::{KEY_MS, KP_MS, length_fits};
+use crate::rhythm::{LEAST_GAP_MS, Rhythm, rhythm_of};
 use std::alloc::{AllocError, Global};
 
-/// A keying may lack a key where more than so many ms lie between two of its keys. A sender keys 68 ms between them, so
-/// some 204 lie there where one was not heard.
-pub const MOST_GAP_MS: u64 = 130;
-
-/// Which limit a figure of a key breaks.
+/// How a key does not keep to the rhythm of its keying.
 #[derive(Clone, Copy, Debug, PartialEq, Eq)]
-pub enum DoubtKind {
-    /// The time since the key before it is over `MOST_GAP_MS`.
+pub(crate) enum DoubtKind {
+    /// The time since the key before it is longer than is usual, by more than half a key and its gap.
     LongGap,
-    /// It lasts longer than a sender keys it.
+    /// The time since the key before it is shorter than any sender leaves.
+    ShortGap,
+    /// It lasts longer than is usual, by more than two thirds.
     LongKey,
-    /// It does not last as long.
+    /// It lasts for less than half as long.
     ShortKey,
 }
 
 /// What may be wrong with a keying because of that.
 #[derive(Clone, Copy, Debug, PartialEq, Eq)]
-pub enum Effect {
+pub(crate) enum Effect {
     /// A key was not heard, or two were heard as one.
     Missing,
     /// A digit is a part of another, which a hole cut in two.
     Extra,
-    /// A key that stands in a keying but once was cut.
+    /// An ST, which stands in a keying but once, was cut.
     Cut,
 }
 
-/// Why a keying that was heard may be another one: a figure of one of its keys breaks a limit.
+/// Why a keying that was heard may be another one: one of its keys does not keep to its rhythm.
 #[derive(Clone, Copy, Debug, PartialEq, Eq)]
-pub struct Doubt {
-    /// Which limit.
+pub(crate) struct Doubt {
+    /// How.
     pub kind: DoubtKind,
     /// What may be wrong.
     pub effect: Effect,
@@ -45,34 +43,44 @@ pub struct Doubt {
     pub key: usize,
     /// The figure, in ms.
     pub ms: u64,
-    /// How many ms a sender keys instead.
-    pub wanted: u64,
+    /// How many ms are usual in its keying.
+    pub usual: u64,
 }
 
-// The doubt that is made by the time before a key, if it is too long.
-fn gap_doubt(key: usize, figures: &Figures) -> Option<Doubt>
-    ensures { listed_doubt result ≡ gap_doubts key figures.now.gap_ms }
+// A doubt of a key of this number, which has so many ms.
+fn doubt_with(kind: DoubtKind, effect: Effect, key: usize, ms: u64, usual: u64) -> Doubt
+    ensures { result ≡ doubt kind effect key ms usual }
 {
-    match figures.gap_ms {
-        Some(ms) if ms > MOST_GAP_MS => Some(Doubt {
-            kind: DoubtKind::LongGap,
-            effect: Effect::Missing,
-            key,
-            ms,
-            wanted: KEY_MS,
-        }),
-        _ => None,
+    Doubt {
+        kind,
+        effect,
+        key,
+        ms,
+        usual,
     }
 }
 
-// How many ms a sender keys a key.
-fn wanted_ms(meaning: &Meaning) -> u64
-    ensures { result ≡ wanted_ms meaning.now }
+// The doubt that is made by this time before a key, if it is too long or too short.
+fn gap_doubt_by(rhythm: Rhythm, key: usize, ms: u64) -> Option<Doubt>
+    ensures { listed_doubt result ≡ gap_doubts_by rhythm key ms }
 {
-    if begins_keying(meaning) {
-        KP_MS
+    let usual = rhythm.gap_ms;
+    if rhythm.most_gap_ms() < u128::from(ms) {
+        Some(doubt_with(DoubtKind::LongGap, Effect::Missing, key, ms, usual))
+    } else if ms < LEAST_GAP_MS {
+        Some(doubt_with(DoubtKind::ShortGap, Effect::Extra, key, ms, usual))
     } else {
-        KEY_MS
+        None
+    }
+}
+
+// The doubt that is made by the time before a key, if there is one.
+fn gap_doubt(rhythm: Rhythm, key: usize, figures: &Figures) -> Option<Doubt>
+    ensures { listed_doubt result ≡ gap_doubts rhythm key figures.now.gap_ms }
+{
+    match figures.gap_ms {
+        None => None,
+        Some(ms) => gap_doubt_by(rhythm, key, ms),
     }
 }
 
@@ -87,34 +95,28 @@ fn short_effect(meaning: &Meaning) -> Effect
     }
 }
 
-// The doubt of a key that does not last as long as a sender keys it.
-fn wrong_length(key: usize, figures: &Figures) -> Doubt
-    ensures { result ≡ length_doubt key figures.now }
+// The doubt of a key other than KP that is too long or too short.
+fn length_doubt_by(rhythm: Rhythm, key: usize, meaning: &Meaning, ms: u64) -> Option<Doubt>
+    ensures { listed_doubt result ≡ length_doubts_by rhythm key meaning.now ms }
 {
-    let wanted = wanted_ms(&figures.meaning);
-    let ms = figures.length_ms;
-    let (kind, effect) = if wanted < ms {
-        (DoubtKind::LongKey, Effect::Missing)
+    let usual = rhythm.key_ms;
+    if rhythm.most_key_ms() < u128::from(ms) {
+        Some(doubt_with(DoubtKind::LongKey, Effect::Missing, key, ms, usual))
+    } else if ms < rhythm.least_key_ms() {
+        Some(doubt_with(DoubtKind::ShortKey, short_effect(meaning), key, ms, usual))
     } else {
-        (DoubtKind::ShortKey, short_effect(&figures.meaning))
-    };
-    Doubt {
-        kind,
-        effect,
-        key,
-        ms,
-        wanted,
+        None
     }
 }
 
-// The doubt that is made by the length of a key, if it is wrong.
-fn length_doubt(key: usize, figures: &Figures) -> Option<Doubt>
-    ensures { listed_doubt result ≡ length_doubts key figures.now }
+// The doubt that is made by the length of a key, if there is one.
+fn length_doubt(rhythm: Rhythm, key: usize, figures: &Figures) -> Option<Doubt>
+    ensures { listed_doubt result ≡ length_doubts rhythm key figures.now }
 {
-    if length_fits(figures) {
+    if begins_keying(&figures.meaning) {
         None
     } else {
-        Some(wrong_length(key, figures))
+        length_doubt_by(rhythm, key, &figures.meaning, figures.length_ms)
     }
 }
 
@@ -128,18 +130,26 @@ fn push_doubt(doubts: &mut Vec<Doubt>, doubt: Option<Doubt>) -> Result<(), Alloc
     Ok(())
 }
 
-/// The doubts of the keys of a keying, in their order. `Err` says that memory ran out.
-pub fn doubts_of(alloc: Global, keys: &[NamedKey]) -> Result<Vec<Doubt>, AllocError>
-    ensures { IfOk result (λ doubts. doubts.items ≡ doubts_of keys.now) }
+// The doubts of the keys of a keying by a rhythm, in their order.
+fn doubts_by(alloc: Global, rhythm: Rhythm, keys: &[NamedKey]) -> Result<Vec<Doubt>, AllocError>
+    ensures { IfOk result (λ doubts. doubts.items ≡ doubts_after rhythm 0 None keys.now) }
 {
     let mut doubts = Vec::new(alloc);
     let mut before = None;
     for (index, key) in keys.iter().enumerate() {
         let heard = key.heard();
         let figures = figures_of(before, heard);
-        push_doubt(&mut doubts, gap_doubt(index + 1, &figures))?;
-        push_doubt(&mut doubts, length_doubt(index + 1, &figures))?;
+        push_doubt(&mut doubts, gap_doubt(rhythm, index + 1, &figures))?;
+        push_doubt(&mut doubts, length_doubt(rhythm, index + 1, &figures))?;
         before = Some(heard);
     }
     Ok(doubts)
+}
+
+/// The doubts of the keys of a keying, in their order. `Err` says that memory ran out.
+pub(crate) fn doubts_of(alloc: Global, keys: &[NamedKey]) -> Result<Vec<Doubt>, AllocError>
+    ensures { IfOk result (λ doubts. doubts.items ≡ doubts_of keys.now) }
+{
+    let rhythm = rhythm_of(alloc, keys)?;
+    doubts_by(alloc, rhythm, keys)
 }

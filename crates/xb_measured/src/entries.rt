@@ -1,8 +1,8 @@
 // The JSON object of an entry.
-ghost use Rattle.std.specs.Prelude.{◌≡◌, ◌++◌, ◌∷◌, [], IfOk, OnOk, map, string_bytes};
+ghost use Rattle.std.specs.Prelude.{◌≡◌, ◌++◌, ◌∷◌, [], IfOk, OnOk, map};
 ghost use Rattle.serde_json.specs.Data.{array};
 ghost use Rattle.serde_json.specs.View.{items_of, view};
-ghost use Rattle.xb_measured.specs.Entries.{doubt_object, ended_ms, entry_line, entry_object, entry_of_parts};
+ghost use Rattle.xb_measured.specs.Entries.{doubt_object, ended_ms, entry_object, entry_of_parts};
 ghost use Rattle.xb_measured.specs.Keyings.{digits_in};
 
 use crate::doubt_lines::began_ms;
@@ -11,7 +11,7 @@ use crate::figures::end_ms;
 use crate::keys::NamedKey;
 use serde_json::Value;
 use std::alloc::{AllocError, Global};
-use xb_json::{Member, line_of, object_of};
+use xb_json::{Member, object_of};
 use xb_model::Digit;
 
 impl DoubtKind {
@@ -24,6 +24,7 @@ impl DoubtKind {
     {
         match self {
             DoubtKind::LongGap => "LONG_GAP",
+            DoubtKind::ShortGap => "SHORT_GAP",
             DoubtKind::LongKey => "LONG_KEY",
             DoubtKind::ShortKey => "SHORT_KEY",
         }
@@ -55,7 +56,7 @@ fn doubt_object(alloc: Global, doubt: &Doubt) -> Result<Value, AllocError>
         ("kind", Member::Word(doubt.kind.word())),
         ("may_be", Member::Word(doubt.effect.word())),
         ("ms", Member::Number(doubt.ms)),
-        ("wanted_ms", Member::Number(doubt.wanted)),
+        ("usual_ms", Member::Number(doubt.usual)),
     ];
     object_of(alloc, &members)
 }
@@ -143,12 +144,4 @@ pub fn entry_object(alloc: Global, number: usize, keys: &[NamedKey]) -> Result<V
         digits: digits_in(alloc, keys)?,
     };
     entry_of_parts(alloc, number, began_ms(keys), ended_ms(keys), &parts)
-}
-
-/// The same as a line. `Err` says that memory ran out.
-pub fn entry_line(alloc: Global, number: usize, keys: &[NamedKey]) -> Result<String, AllocError>
-    ensures { IfOk result (λ line. string_bytes line ≡ entry_line number keys.now) }
-{
-    let object = entry_object(alloc, number, keys)?;
-    line_of(alloc, &object)
 }

@@ -50,28 +50,28 @@ fn ms_of(samples: u128) -> u64
 }
 
 /// When a key began, in ms from the first sample.
-pub fn start_ms(key: Heard) -> u64
+pub(crate) fn start_ms(key: Heard) -> u64
     ensures { result ≡ start_ms key }
 {
     ms_of(HOP * u128::from(key.first) + HOP)
 }
 
 /// When a key ended, in ms from the first sample.
-pub fn end_ms(key: Heard) -> u64
+pub(crate) fn end_ms(key: Heard) -> u64
     ensures { result ≡ end_ms key }
 {
     ms_of(HOP * u128::from(key.past) + PAST_HOP)
 }
 
-// How long a key lasted.
-fn length_ms(key: Heard) -> u64
+/// How long a key lasted, in ms.
+pub(crate) fn length_ms(key: Heard) -> u64
     ensures { result ≡ length_ms key }
 {
     ms_of(HOP * u128::from(key.past.saturating_sub(key.first)) + HOP)
 }
 
-// The time between the last key and this one.
-fn gap_ms(before: Option<Heard>, key: Heard) -> Option<u64>
+/// The time between the last key and this one, in ms.
+pub(crate) fn gap_ms(before: Option<Heard>, key: Heard) -> Option<u64>
     ensures { result ≡ gap_ms before key }
 {
     let before = before?;

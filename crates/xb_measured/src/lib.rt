@@ -11,23 +11,26 @@
 //! - When each tone began is told by how much of it there is in the samples round the beginning of the key
 //!   (`onsets_of`), and the holes by the windows of the key in which no pair stood out (`blank_in`).
 //! - `figures_of`: the figures of a key, by the last key before it. `misses`: all limits that they miss, of
-//!   length, gap, tuning, twist, level, skew and holes; `verdict_text`: their words, or GOOD. `length_fits`:
-//!   whether they keep to the first.
-//! - `text_line` is exactly the line of the figures, and `object_line` the same as a JSON object (`object_of`).
+//!   length, gap, tuning, twist, level, skew and holes. `verdict_text`: their words, or GOOD.
+//! - `text_line` is exactly the line of the figures, and `object_of` the same as a JSON object.
 //! - `Meter`: how loud a sound is in which no key was heard (`quiet_line`).
-//! - `end_ms`: when a key ended. `seconds_text`: a time in seconds.
+//! - `seconds_text`: a time in seconds.
 //! - `laws::tenths_are_nearest`: the tenths of a dB of a level are the nearest to its decibels.
-//!   `levels_are_as_worked`: levels in dBm0, as worked by hand.
+//!   `levels_are_as_worked`: levels in dBm0, as worked by hand. `verdicts_are_as_worked`: so with the figures that System
+//!   R1 takes.
+//! - `laws::times_are_of_sounds`: the measured times of a key are those of its sound, to some ms; `holes_are_gaps`: a hole
+//!   is as long as a gap.
 //!
 //! What is told of the keyings that were heard in a sound: what is doubtful of each, and an object of JSON.
 //!
 //! - `NamedKey`: a key that was heard, and what it stands for. `write_loose`: the line of one that is in no keying.
-//! - `doubts_text`: a line for each doubt of a keying (`doubts_of`), with what may be wrong by it: one key may be missing
-//!   where two lie over `MOST_GAP_MS` apart or one lasts too long, one digit too many where it is too short, and a KP or
-//!   an ST that is too short may be cut.
+//! - `rhythm_of`: how long the keys of a keying and the gaps between them are, as is usual there.
+//! - `doubts_text`: a line where a key or a gap does not keep to that (`doubts_of`), with what may be wrong by it: one key
+//!   may be missing where a gap or a key is too long, one digit too many where either is too short, and an ST that is too
+//!   short may be cut.
 //! - `began_ms` and `ended_ms`: when a keying begins and ends.
 //! - `entry_object`: exactly the object of a keying as an entry, with its place in the sound, its digits and its
-//!   doubts. `entry_line`: the same as a line.
+//!   doubts.
 //!
 //! Whether the digits of a push-button telephone (DTMF) sound in samples, and for how long. They are no MF keys, though
 //! some come near them.
@@ -37,47 +40,44 @@
 //! - `buttons_line`: the line that tells of them, or no line where there are none.
 #![tactic(auto)]
 
-mod blanks;
 mod button_block;
 mod button_line;
+mod button_tone;
 mod buttons;
-mod correlation;
 mod doubt_lines;
 mod doubts;
 mod entries;
 mod figures;
 mod heard;
+mod holes;
+mod key_line;
+mod key_object;
 mod keys;
+mod last_samples;
 pub mod laws;
 mod levels;
-mod lines;
 mod meaning;
 mod meter;
-mod objects;
 mod onsets;
 mod receiver;
+mod rhythm;
 mod seconds;
-mod stretches;
-mod tape;
+mod strongest_stretch;
 mod tones;
 mod verdicts;
-mod waves;
+mod wave_sums;
 
 pub use button_line::buttons_line;
-pub use buttons::{BLOCK, Buttons};
+pub use buttons::Buttons;
 pub use doubt_lines::{began_ms, doubts_text};
-pub use doubts::{Doubt, DoubtKind, Effect, MOST_GAP_MS, doubts_of};
-pub use entries::{ended_ms, entry_line, entry_object};
-pub use figures::{Figures, end_ms, figures_of, start_ms};
+pub use entries::{ended_ms, entry_object};
+pub use figures::{Figures, figures_of};
 pub use heard::{Heard, MeasuredTone, Onsets};
+pub use key_line::text_line;
+pub use key_object::object_of;
 pub use keys::{MOST_DIGITS, NamedKey};
-pub use lines::text_line;
 pub use meaning::Meaning;
 pub use meter::Meter;
-pub use objects::{object_line, object_of};
 pub use receiver::Receiver;
 pub use seconds::seconds_text;
-pub use verdicts::{
-    KEY_MS, KP_MS, Limit, MOST_OFF_HZ, MOST_OFF_MS, MOST_OFF_PER_MILLE, MOST_SKEW_TENTHS,
-    length_fits, misses, verdict_text,
-};
+pub use verdicts::{Limit, misses};

@@ -4,7 +4,7 @@ ghost use Rattle.xb_measured.specs.Onsets.{level_at, level_in, onsets_in, onsets
 
 use crate::heard::Onsets;
 use crate::tones::square;
-use crate::waves::sums_of;
+use crate::wave_sums::sums_of;
 use xb_ear::Heard as HeardKey;
 use xb_model::Tone;
 

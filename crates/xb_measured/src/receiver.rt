@@ -4,9 +4,9 @@ ghost use Rattle.xb_ear.specs.declared.hearing.Heard.{Heard as GivenKey};
 ghost use Rattle.xb_ear.specs.Receivers.{HasReceived as HasEarReceived};
 ghost use Rattle.xb_measured.specs.Tapes.{IsTapeOf, heard_in};
 
-use crate::blanks::blank_of;
 use crate::heard::Heard;
-use crate::tape::Tape;
+use crate::holes::blank_of;
+use crate::last_samples::LastSamples;
 use std::marker::Model;
 use xb_ear::{Heard as EarKey, Receiver as Ear};
 
@@ -15,7 +15,7 @@ use xb_ear::{Heard as EarKey, Receiver as Ear};
 #[derive(Drop)]
 pub struct Receiver {
     ear: Ear,
-    tape: Tape,
+    tape: LastSamples,
 }
 
 // Clauses see what the ear knows, and the tape.
@@ -28,7 +28,7 @@ impl Model for Receiver {
 }
 
 // A key that is given now, with its tones.
-fn measured(ear: &Ear, tape: &Tape, key: EarKey) -> Heard
+fn measured(ear: &Ear, tape: &LastSamples, key: EarKey) -> Heard
     ensures { (samples : List ℤ) (keys : List GivenKey) → HasEarReceived ear.now samples keys
         → IsTapeOf tape.now samples → result ≡ heard_in samples key }
 {
@@ -46,7 +46,7 @@ impl Receiver {
     {
         Receiver {
             ear: Ear::new(),
-            tape: Tape::new(),
+            tape: LastSamples::new(),
         }
     }
 

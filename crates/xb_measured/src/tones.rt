@@ -4,7 +4,7 @@ ghost use Rattle.xb_measured.specs.Tones.{AreSmall, across, along, gains, hz_wit
 
 use crate::heard::MeasuredTone;
 use crate::levels::count_up_to;
-use crate::waves::{Sums, sums_of};
+use crate::wave_sums::{Sums, sums_of};
 
 // So many samples are measured at a time, the second time so many later.
 const SPAN: usize = 160;

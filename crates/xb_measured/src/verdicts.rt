@@ -10,29 +10,29 @@ use std::alloc::{AllocError, Global};
 use xb_model::Key;
 
 /// A sender keys KP for so many ms (Q.322).
-pub const KP_MS: u64 = 100;
+pub(crate) const KP_MS: u64 = 100;
 
 /// And each other key, and each gap.
-pub const KEY_MS: u64 = 68;
+pub(crate) const KEY_MS: u64 = 68;
 
 /// A time may be so many ms off: 7 by System R1, and 7 more, which the windows of the receiver leave unsure.
-pub const MOST_OFF_MS: u64 = 14;
+pub(crate) const MOST_OFF_MS: u64 = 14;
 
 /// A tone has 7 dB less than 0 dBm0, in tenths.
-pub const LEVEL_BELOW: u32 = 70;
+pub(crate) const LEVEL_BELOW: u32 = 70;
 
 /// A level may be so many tenths of a dB off, and one tone so many above the other: 1 dB, and 0.2 for what the measure
 /// may be off.
-pub const MOST_OFF_TENTHS: u64 = 12;
+pub(crate) const MOST_OFF_TENTHS: u64 = 12;
 
 /// One tone may begin so many tenths of a ms before the other: 1 ms by System R1, and 2 more, which the measure may be off.
-pub const MOST_SKEW_TENTHS: u64 = 30;
+pub(crate) const MOST_SKEW_TENTHS: u64 = 30;
 
 /// A frequency may be so many thousandths off by System R1,
-pub const MOST_OFF_PER_MILLE: u64 = 15;
+pub(crate) const MOST_OFF_PER_MILLE: u64 = 15;
 
 /// and so many Hz more, which the measure may be off.
-pub const MOST_OFF_HZ: u64 = 2;
+pub(crate) const MOST_OFF_HZ: u64 = 2;
 
 /// A limit of System R1 for a sender, which a key may miss.
 #[derive(Clone, Copy, Debug, PartialEq, Eq)]
@@ -81,7 +81,7 @@ fn is_about(wanted: u64, off: u64, number: u64) -> bool
 }
 
 /// Whether a key lasts as long as a sender keys it: LENGTH is the limit that it misses else.
-pub fn length_fits(figures: &Figures) -> bool
+pub(crate) fn length_fits(figures: &Figures) -> bool
     ensures { result ≡ length_fits figures.now }
 {
     let as_kp = is_about(KP_MS, MOST_OFF_MS, figures.length_ms);
@@ -211,7 +211,7 @@ fn push_words(text: &mut String, limits: &[Limit]) -> Result<(), AllocError>
 
 /// What is said of a key: the words of all limits that it misses, with a blank between, or `GOOD`. `Err` says that
 /// memory ran out.
-pub fn verdict_text(alloc: Global, figures: &Figures) -> Result<String, AllocError>
+pub(crate) fn verdict_text(alloc: Global, figures: &Figures) -> Result<String, AllocError>
     ensures { IfOk result (λ text. string_bytes text ≡ verdict_text (misses figures.now)) }
 {
     let limits = misses(alloc, figures)?;

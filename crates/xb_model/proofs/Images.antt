@@ -7,6 +7,14 @@ use Rattle.xb_model.specs.Lines.{of_line}
 use Rattle.xb_model.specs.Image.{Machine, state_after, image_after, image, image_from, image_on}
 use Rattle.xb_model.proofs.Lines.{of_line-append, of_line-here, of_line-other, of_line-all, of_line-none, of_line-twice, of_line-on}
 
+-- what is sent for one item more, and for many
+pub image_from-append : {I O S : Type 0} (m : Machine I O S) (s : S) (xs ys : List I)
+    → image_from m s (xs ++ ys) ≡ image_from m s xs ++ image_from m (fold m.next s xs) ys
+image_from-append m s [] ys = refl
+image_from-append m s (x ∷ xs) ys =
+    ap (λ rest. m.outs s x ++ rest) (image_from-append m (m.next s x) xs ys)
+    ∙ sym (append_assoc (m.outs s x) (image_from m (m.next s x) xs) (image_from m (fold m.next (m.next s x) xs) ys))
+
 module _ {I O S : Type 0} (line : I → ℕ) (m : Machine I O S) where
   -- the first items of a line leave what they leave among others
   pub state_after-line : (earlier : List I) (l : ℕ) → state_after line m (of_line line l earlier) l ≡ state_after line m earlier l

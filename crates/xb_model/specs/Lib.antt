@@ -1,6 +1,9 @@
+pub mod Letters
+pub mod WorkedLetters
 pub mod Constants
 pub mod CutRows
 pub mod Digits
+pub mod FaultTexts
 pub mod Fields
 pub mod Image
 pub mod Keyings

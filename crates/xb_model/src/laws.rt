@@ -7,6 +7,7 @@ ghost use Rattle.xb_model.specs.WorkedRoutes.{OrdersOfNumbers};
 ghost use Rattle.xb_model.specs.WorkedTapes.{OperatorCall, SevenDigits, SplitRows, TwoLinesInTurn, BreakLimits, MakeLimits, ElevenPulses, TimeOutAndConversation, LastDigitPause, ClosedLine, UnknownCodes, SecondCall, ShortRecords, LongestKeying, EntriesOfATape};
 ghost use Rattle.xb_model.specs.WorkedPlans.{TenDigits, LongestKeyingOfTen, OwnLimits};
 ghost use Rattle.xb_model.specs.WorkedPages.{PageOfOperatorCall, PageOfSevenDigits, PageOfNoRows, PageOfUnfinished, PageOfRefusals};
+ghost use Rattle.xb_model.specs.WorkedLetters.{LettersOfTheDial};
 
 /// The number of lines, of trunk groups, of digits and so on, each as it is.
 pub fn constants()
@@ -111,4 +112,9 @@ pub fn texts_of_pages()
     ensures no_rows { PageOfNoRows }
     ensures unfinished { PageOfUnfinished }
     ensures refusals { PageOfRefusals }
+{}
+
+/// The digits of letters, and of other characters.
+pub fn letters_of_the_dial()
+    ensures { LettersOfTheDial }
 {}

@@ -9,7 +9,7 @@
 //! - `Relays::check` holds exactly where two elements operate, and `Relays::digit` is then their digit.
 //!   `Relays::of_count` gives the pattern of 1 to 10 good pulses, 10 being 0, and else no element.
 //! - `mf` is the pair of each key, `key_of` the key of a pair, `Key::name` the name that the page prints.
-//!   `plan_len` is the length of a number by its first digits.
+//!   `plan_len` is the length of a number by its first digits, `is_reached` whether there are as many.
 //!   `Limits::standard` are lawful limits, `Mark::ends` says where an entry ends, `Reason::word` is the
 //!   page's word.
 //! - `field_number` and `line_of` are the number and the line that a field of a text writes, and `None` for
@@ -23,6 +23,8 @@
 //!   of stages that keep none.
 //! - `RowSource`: each call gives what a source of rows has still to give; once it has told its stop, no
 //!   memory runs out. `Listed` is the source of a list, and takes no memory.
+//! - `digit_of_character`: the digit that a character dials, a digit itself or the digit beside which a letter
+//!   stands, small or not; `None` of any other.
 #![tactic(auto)]
 
 mod dialled;
@@ -33,6 +35,7 @@ mod field;
 mod image;
 mod key;
 pub mod laws;
+mod letters;
 mod limits;
 mod line;
 mod mark;
@@ -59,6 +62,7 @@ pub use fault::RowFault;
 pub use field::{FIELD_DIGITS, LINE_DIGITS, field_number, line_of};
 pub use image::image_of;
 pub use key::{Key, Tone, key_of, mf};
+pub use letters::digit_of_character;
 pub use limits::{GREATEST_LIMIT, Limits};
 pub use line::{LINES, LineNo};
 pub use mark::{KEYING_MARKS, Mark};
@@ -66,7 +70,7 @@ pub use on::{On, OnLine};
 pub use order::Order;
 pub use per_line::PerLine;
 pub use per_line_iter::EachLine;
-pub use plan::{Plan, is_area_code, is_service_code, plan_len};
+pub use plan::{Plan, is_area_code, is_reached, is_service_code, plan_len};
 pub use reason::Reason;
 pub use relays::Relays;
 pub use row::{Contact, GREATEST_MS, Row};

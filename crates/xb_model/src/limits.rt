@@ -8,7 +8,9 @@ pub const GREATEST_LIMIT: u32 = 1_000_000;
 /// The limits of a line's pulses, each in ms.
 ///
 /// They are lawful from 1 to 1,000,000 and in their order, `pulse_min` ≤ `pulse_max` < `release`
-/// and `make_min` ≤ `pause` < `timeout`; the type does not enforce it.
+/// and `make_min` ≤ `pause` < `timeout`; the type does not enforce it. They lie in memory as C has
+/// them, for a caller of another language.
+#[repr(C)]
 #[derive(Clone, Copy, Debug, PartialEq, Eq)]
 pub struct Limits {
     /// The shortest break that is a pulse.

@@ -1,5 +1,5 @@
 // Line numbers.
-ghost use Rattle.std.specs.Prelude.{◌≡◌, ℕ, ◌<◌, ◌↔◌, IsSome, IfSome};
+ghost use Rattle.std.specs.Prelude.{◌≡◌, ℕ, ◌<◌, ◌↔◌, IsSome, IfSome, None, Some, if◌then◌else◌, nat_lt};
 
 use std::marker::Model;
 
@@ -33,6 +33,17 @@ impl LineNo {
     {
         if number < LINES {
             Some(LineNo { number })
+        } else {
+            None
+        }
+    }
+
+    /// The line of a number that somebody wrote; `None` over 9999.
+    pub fn of_number(number: u32) -> Option<LineNo>
+        ensures { result ≡ (if nat_lt number LINES then Some number else None) }
+    {
+        if number < u32::from(LINES) {
+            LineNo::new(number as u16)
         } else {
             None
         }

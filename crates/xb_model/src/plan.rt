@@ -1,5 +1,6 @@
 // The length of a number.
-ghost use Rattle.std.specs.Prelude.{◌≡◌};
+ghost use Rattle.std.specs.Prelude.{◌≡◌, length};
+ghost use Rattle.xb_model.specs.Numbers.{reaches};
 ghost use Rattle.xb_model.specs.Plans.{plan_len, plan_of_digits, length_after_three, is_service_code, is_area_code};
 
 use crate::digit::Digit;
@@ -67,5 +68,15 @@ pub fn plan_len(plan: Plan, digits: &[Digit]) -> Option<u8>
                 None
             }
         }
+    }
+}
+
+/// Whether digits are as many as the number has that begins with them, or more.
+pub fn is_reached(plan: Plan, digits: &[Digit]) -> bool
+    ensures { result ≡ reaches (plan_len plan digits.now) (length digits.now) }
+{
+    match plan_len(plan, digits) {
+        Some(len) => usize::from(len) <= digits.len(),
+        None => false,
     }
 }

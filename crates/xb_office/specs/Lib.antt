@@ -1,4 +1,5 @@
 pub mod DeckPage
+pub mod FaultTexts
 pub mod Faults
 pub mod MadeDecks
 pub mod Options

@@ -19,6 +19,7 @@ use Rattle.xb_office.specs.declared.options.Options.{Options}
 use Rattle.xb_office.specs.declared.words.Said.{Said}
 use Rattle.xb_office.specs.DeckPage.{Delivers, Reads}
 use Rattle.xb_office.specs.Options as asking
+use Rattle.xb_office.specs.FaultTexts.{office_text}
 
 -- exactly the page was written
 pub record WritesPage (old new : Streams) : Type 0 where
@@ -31,7 +32,7 @@ pub record HasFault (name : Text) (old new : Streams) : Type 0 where
   pub fault : OfficeFault
   pub page : Delivers old.input (Err fault) old.output new.output
   pub read : Reads (Err fault) old.input new.input
-  pub line : Tells name None old.errors new.errors
+  pub line : Tells name (Some (office_text fault)) old.errors new.errors
 
 -- what the words ask for, what is read, and what is done
 abbrev pub by_bank : Rules Asked

@@ -1,6 +1,7 @@
 // Why an office gives no page.
 ghost use Rattle.std.specs.Prelude.{◌≡◌};
 
+use std::fmt;
 use thiserror::Error;
 use xb_deck::DeckFault;
 use xb_flow::Post;
@@ -16,29 +17,41 @@ use xb_text::WriteFault;
 #[derive(Clone, Copy, Debug, PartialEq, Eq, Error)]
 pub enum OfficeFault {
     /// A read of the deck failed, an interrupted one too.
-    #[error("{}", DeckFault::Read)]
     Read,
     /// The deck has more than 16,777,216 bytes.
-    #[error("{}", DeckFault::TooLong)]
     DeckTooLong,
     /// No line of the deck is exactly `---`.
-    #[error("{}", DeckFault::NoCut)]
     NoCut,
     /// The route table is refused.
-    #[error("{}", DeckFault::Routes(*.0))]
     Routes(RouteFault),
     /// The loop rows are refused.
-    #[error("{}", DeckFault::Rows(*.0))]
     Rows(RowFault),
     /// This post could not be started on a thread.
-    #[error("the post {0} could not be started")]
     Bank(Post),
     /// Memory ran out.
-    #[error("{}", DeckFault::NoMemory)]
     NoMemory,
     /// A write or the flush failed, or a write took no byte. The beginning of the page was written.
-    #[error("the page could not be written")]
     Write,
+}
+
+impl fmt::Display for OfficeFault {
+    ghost use Rattle.std.specs.Prelude.{Some};
+    ghost use Rattle.xb_office.specs.FaultTexts.{office_text};
+
+    ghost output = { λ fault. Some (office_text fault) };
+
+    fn fmt<W: fmt::Write>(&self, f: &mut fmt::Formatter<W>) -> fmt::Result {
+        match self {
+            OfficeFault::Read => write!(f, "{}", DeckFault::Read),
+            OfficeFault::DeckTooLong => write!(f, "{}", DeckFault::TooLong),
+            OfficeFault::NoCut => write!(f, "{}", DeckFault::NoCut),
+            OfficeFault::Routes(fault) => write!(f, "{}", DeckFault::Routes(*fault)),
+            OfficeFault::Rows(fault) => write!(f, "{}", DeckFault::Rows(*fault)),
+            OfficeFault::Bank(post) => write!(f, "the post {post} could not be started"),
+            OfficeFault::NoMemory => f.write_str("out of memory"),
+            OfficeFault::Write => f.write_str("the page could not be written"),
+        }
+    }
 }
 
 impl From<DeckFault> for OfficeFault {

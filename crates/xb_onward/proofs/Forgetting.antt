@@ -13,7 +13,8 @@ use Rattle.xb_incoming.specs.Attempts.{is_clear, is_kp, times_out}
 use Rattle.xb_model.specs.declared.reason.Reason.TheVariants.{TimedOut}
 use Rattle.xb_model.specs.Image.{image_from}
 use Rattle.xb_incoming.specs.Machine.{enter, listen, machine, next, opened, outs, phase_after, refuse, told_by}
-use Rattle.xb_incoming.proofs.Taken.{all-told, image_from-append, told-idle, told_from}
+use Rattle.xb_model.proofs.Images.{image_from-append}
+use Rattle.xb_incoming.proofs.Taken.{all-told, told-idle, told_from}
 use Rattle.xb_onward.specs.Forgetting.{IsNew, IsNewAfterSt, IsNewBeforeKp}
 
 -- where it has no keying it stands as at first

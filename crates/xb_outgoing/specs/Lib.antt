@@ -1,3 +1,4 @@
+pub mod FaultTexts
 pub mod Groups
 pub mod Tables
 pub mod Files

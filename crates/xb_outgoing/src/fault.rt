@@ -1,6 +1,7 @@
 // Why a table is refused, or not read.
 ghost use Rattle.std.specs.Prelude.{◌≡◌};
 
+use std::fmt;
 use thiserror::Error;
 use xb_command::OpenFault;
 use xb_model::RowFault;
@@ -12,17 +13,32 @@ use xb_routes::RouteFault;
 #[derive(Clone, Copy, Debug, PartialEq, Eq, Error)]
 pub enum OutgoingFault {
     /// It is refused whatever `send` says.
-    #[error("{0}")]
     Routes(RouteFault),
     /// `send` of the route is not the text `dp`.
-    #[error("route {0} has a wrong send")]
     Send(usize),
     /// An earlier route of the same trunk group is sent in another way.
-    #[error("route {0} is not sent as an earlier one of its trunk")]
     Differs(usize),
     /// Memory ran out.
-    #[error("{}", RowFault::NoMemory)]
     NoMemory,
+}
+
+impl fmt::Display for OutgoingFault {
+    ghost use Rattle.std.specs.Prelude.{Some};
+    ghost use Rattle.xb_outgoing.specs.FaultTexts.{outgoing_text};
+
+    ghost output = { λ fault. Some (outgoing_text fault) };
+
+    fn fmt<W: fmt::Write>(&self, f: &mut fmt::Formatter<W>) -> fmt::Result {
+        match self {
+            OutgoingFault::Routes(fault) => write!(f, "{fault}"),
+            OutgoingFault::Send(number) => write!(f, "route {number} has a wrong send"),
+            OutgoingFault::Differs(number) => write!(
+                f,
+                "route {number} is not sent as an earlier one of its trunk"
+            ),
+            OutgoingFault::NoMemory => f.write_str("out of memory"),
+        }
+    }
 }
 
 /// Why a file has no table.

@@ -1,19 +1,20 @@
 -- The steps of reading a page.
-use Rattle.std.proofs.Common.{◌≡◌, ◌∙◌, ℕ, suc, ◌+◌, ◌<◌, ◌≤◌, Bool, true, false, cond, List, [], ◌∷◌, ◌++◌, length, eqb, Option, Some, None, Ok, Err, Result, IfOk, IfErr, inl, inr, drop, ne_eqb, sym, ap, append_assoc, append-nil, arith, refl}
+use Rattle.std.proofs.Common.{◌≡◌, ◌∙◌, ℕ, suc, ◌+◌, ◌<◌, ◌≤◌, Bool, Bor, true, false, cond, List, [], ◌∷◌, ◌++◌, length, eqb, Option, Some, None, Ok, Err, Result, IfOk, IfErr, inl, inr, drop, ne_eqb, sym, ap, append_assoc, append-nil, arith, refl}
 use Rattle.std.specs.List.{onto_first}
+use Rattle.std.specs.Prelude.{option_copied}
 use Rattle.std.proofs.lemmas.Bool.{cond-true, cond-false}
 use Rattle.std.proofs.lemmas.List.Splits.{length-slice_split}
 use Rattle.std.proofs.lemmas.List.Sums.{count_by-le-length}
 use Rattle.xb_model.specs.declared.mark.Mark.{Mark}
 use Rattle.xb_page.proofs.Counts.{some-piece}
 use Rattle.xb_page.specs.Entries.{Entry}
-use Rattle.xb_page.specs.Places.{Head, field_at, head_and, head_of_fields, head_of_words, place_after, text_line, written}
+use Rattle.xb_page.specs.Places.{Head, field_at, head_and, head_of_fields, head_of_words, line_feed, place_after, text_line, written}
 use Rattle.xb_page.specs.declared.fault.PageFault.{PageFault}
 use Rattle.xb_page.specs.declared.fault.PageFault.TheVariants as fault
 use Rattle.xb_page.specs.declared.page_place.Head.{Head as WrittenHead}
 use Rattle.xb_page.specs.declared.page_place.PagePlace.{PagePlace}
 use Rattle.xb_page.specs.ReadPages.{IsFaultOf, TakesLine, after, before, before_entries, end_of, entries_from, entry_and_rest, entry_of_fields, entry_of_head, is_cut, is_end, is_totals, mark_of, marks_of, says_totals, with_earlier}
-use Rattle.xb_text.specs.Pieces.{pieces}
+use Rattle.xb_text.specs.Pieces.{pieces, pieces_left}
 
 pub earlier-none : (marks : Option (List Mark)) → marks ≡ with_earlier [] marks
 earlier-none None = refl
@@ -62,47 +63,65 @@ takes_entry place next line old new entry is goes items later =
     ∙ ap (λ (all : List Entry). after all (entries_from (place_after place entry) later)) (sym items)
     ∙ ap (λ (p : PagePlace). after new (entries_from p later)) (sym goes)
 
+-- a text line comes next, and these after it
+pub record HasLine (all : Result (List Entry) PageFault) (place : PagePlace) (old : List Entry) (line : List ℕ)
+    (lines : List (List ℕ)) : Type 0 where
+  pub is : all ≡ after old (entries_from place (line ∷ lines))
+  pub more : is_end (line ∷ lines) ≡ false
+
+-- it is the first piece of what is left
+pub has-line : (all : Result (List Entry) PageFault) (place : PagePlace) (old : List Entry) (left : Option (Bor (List ℕ)))
+    (text : Bor (List ℕ)) (line : List ℕ) (lines : List (List ℕ))
+    → all ≡ after old (entries_from place (pieces_left line_feed (option_copied left))) → left ≡ Some text
+    → pieces line_feed text.now ≡ line ∷ lines → false ≡ is_end (pieces line_feed text.now) → HasLine all place old line lines
+has-line all place old left text line lines is some first goes_on = record {
+  is = is
+      ∙ ap (λ (o : Option (Bor (List ℕ))). after old (entries_from place (pieces_left line_feed (option_copied o)))) some
+      ∙ ap (λ (ls : List (List ℕ)). after old (entries_from place ls)) first;
+  more = ap is_end (sym first) ∙ sym goes_on;
+}
+
 -- the steps of the loop over the text lines
 pub line-more : (all : Result (List Entry) PageFault) (place next : PagePlace) (line : List ℕ) (lines : List (List ℕ)) (old new : List Entry)
-    → all ≡ after old (entries_from place (line ∷ lines)) → is_end (line ∷ lines) ≡ false → is_totals (pieces 32 line) ≡ false
+    → HasLine all place old line lines → is_totals (pieces 32 line) ≡ false
     → TakesLine place line old next new → all ≡ after new (entries_from next lines)
 unfolding entries_from
-line-more all place next line lines old new is more other takes =
-    is ∙ ap (after old) (cond-false _ _ _ more ∙ cond-false _ _ _ other) ∙ takes lines
+line-more all place next line lines old new has other takes =
+    has.is ∙ ap (after old) (cond-false _ _ _ has.more ∙ cond-false _ _ _ other) ∙ takes lines
 
 line-wrong : (all : Result (List Entry) PageFault) (place : PagePlace) (line : List ℕ) (lines : List (List ℕ)) (old : List Entry) (f : PageFault)
-    → all ≡ after old (entries_from place (line ∷ lines)) → is_end (line ∷ lines) ≡ false → is_totals (pieces 32 line) ≡ false
+    → HasLine all place old line lines → is_totals (pieces 32 line) ≡ false
     → entry_of_fields place (pieces 32 line) ≡ Err f → all ≡ Err f
 unfolding entries_from
-line-wrong all place line lines old f is more other wrong =
-    is ∙ ap (after old) (cond-false _ _ _ more ∙ cond-false _ _ _ other
+line-wrong all place line lines old f has other wrong =
+    has.is ∙ ap (after old) (cond-false _ _ _ has.more ∙ cond-false _ _ _ other
     ∙ ap (λ (first : Result Entry PageFault). entry_and_rest first
     (λ entry. entries_from (place_after place entry) lines)) wrong)
 
 pub line-fault : (all : Result (List Entry) PageFault) (place : PagePlace) (line : List ℕ) (lines : List (List ℕ)) (old : List Entry) (f : PageFault)
-    → all ≡ after old (entries_from place (line ∷ lines)) → is_end (line ∷ lines) ≡ false → is_totals (pieces 32 line) ≡ false
+    → HasLine all place old line lines → is_totals (pieces 32 line) ≡ false
     → IsFaultOf (entry_of_fields place (pieces 32 line)) f → IsFaultOf all f
-line-fault all place line lines old f is more other (inl memory) = inl memory
-line-fault all place line lines old f is more other (inr wrong) = inr (line-wrong all place line lines old f is more other wrong)
+line-fault all place line lines old f has other (inl memory) = inl memory
+line-fault all place line lines old f has other (inr wrong) = inr (line-wrong all place line lines old f has other wrong)
 
 line-totals : (all : Result (List Entry) PageFault) (place : PagePlace) (line : List ℕ) (lines : List (List ℕ)) (old : List Entry)
-    → all ≡ after old (entries_from place (line ∷ lines)) → is_end (line ∷ lines) ≡ false → is_totals (pieces 32 line) ≡ true
+    → HasLine all place old line lines → is_totals (pieces 32 line) ≡ true
     → all ≡ after old (end_of place (pieces 32 line) lines)
 unfolding entries_from
-line-totals all place line lines old is more totals =
-    is ∙ ap (after old) (cond-false _ _ _ more ∙ cond-true _ _ _ totals)
+line-totals all place line lines old has totals =
+    has.is ∙ ap (after old) (cond-false _ _ _ has.more ∙ cond-true _ _ _ totals)
 
 pub line-last : (all : Result (List Entry) PageFault) (place : PagePlace) (line : List ℕ) (lines : List (List ℕ)) (old : List Entry)
-    → all ≡ after old (entries_from place (line ∷ lines)) → is_end (line ∷ lines) ≡ false → is_totals (pieces 32 line) ≡ true
+    → HasLine all place old line lines → is_totals (pieces 32 line) ≡ true
     → end_of place (pieces 32 line) lines ≡ Ok [] → all ≡ Ok old
-line-last all place line lines old is more totals end =
-    line-totals all place line lines old is more totals ∙ ap (after old) end ∙ ap Ok (append-nil old)
+line-last all place line lines old has totals end =
+    line-totals all place line lines old has totals ∙ ap (after old) end ∙ ap Ok (append-nil old)
 
 pub line-early : (all : Result (List Entry) PageFault) (place : PagePlace) (line : List ℕ) (lines : List (List ℕ)) (old : List Entry) (f : PageFault)
-    → all ≡ after old (entries_from place (line ∷ lines)) → is_end (line ∷ lines) ≡ false → is_totals (pieces 32 line) ≡ true
+    → HasLine all place old line lines → is_totals (pieces 32 line) ≡ true
     → end_of place (pieces 32 line) lines ≡ Err f → all ≡ Err f
-line-early all place line lines old f is more totals end =
-    line-totals all place line lines old is more totals ∙ ap (after old) end
+line-early all place line lines old f has totals end =
+    line-totals all place line lines old has totals ∙ ap (after old) end
 
 pub lines-end : (all : Result (List Entry) PageFault) (place : PagePlace) (lines : List (List ℕ)) (old : List Entry)
     → all ≡ after old (entries_from place lines) → is_end lines ≡ true → all ≡ Err (fault.NoTotals (text_line place))

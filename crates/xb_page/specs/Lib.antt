@@ -1,4 +1,5 @@
 pub mod Entries
+pub mod FaultTexts
 pub mod Places
 pub mod ReadPages
 pub mod Sheets

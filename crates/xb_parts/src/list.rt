@@ -5,19 +5,32 @@ ghost use Rattle.xb_text.specs.Pieces.{pieces, pieces_left};
 
 use crate::range::LineRange;
 use std::alloc::{AllocError, AllocFailed, Global};
+use std::fmt;
 use thiserror::Error;
-use xb_model::{RowFault, line_of};
+use xb_model::line_of;
 use xb_text::first_piece;
 
 /// Why a text gives no ranges.
 #[derive(Clone, Copy, Debug, PartialEq, Eq, Error)]
 pub enum ListFault {
     /// It is no list of parts.
-    #[error("it is no list of parts")]
     NoList,
     /// Memory ran out.
-    #[error("{}", RowFault::NoMemory)]
     NoMemory,
+}
+
+impl fmt::Display for ListFault {
+    ghost use Rattle.std.specs.Prelude.{Some};
+    ghost use Rattle.xb_parts.specs.FaultTexts.{list_text};
+
+    ghost output = { λ fault. Some (list_text fault) };
+
+    fn fmt<W: fmt::Write>(&self, f: &mut fmt::Formatter<W>) -> fmt::Result {
+        match self {
+            ListFault::NoList => f.write_str("it is no list of parts"),
+            ListFault::NoMemory => f.write_str("out of memory"),
+        }
+    }
 }
 
 impl From<AllocFailed<LineRange>> for ListFault {

@@ -10,8 +10,7 @@ use Rattle.xb_heard.specs.declared.row.DigitRow.{DigitRow}
 use Rattle.xb_heard.specs.declared.row.Remark.{Remark}
 use Rattle.xb_heard.specs.declared.row.Remark.TheVariants as remark
 use Rattle.xb_heard.specs.DigitRows.{row_of}
-use Rattle.xb_report.specs.Words.{is_taken}
-use Rattle.xb_report.specs.Marked.{fault_marked}
+use Rattle.xb_report.specs.Words.{fault_text, is_taken}
 use Rattle.xb_picture.specs.Labels.{record_text, tenths_with}
 use Rattle.xb_picture.specs.declared.course.TheConstants.{TRAIN}
 use Rattle.xb_picture.specs.declared.figures.TheConstants.{TOLD}
@@ -49,7 +48,7 @@ wrong_words limits n (run ∷ rest) =
 -- under a spoiled digit that the register took, or did not: its first fault, and where
 abbrev pub fault_words : Limits → Bool → Spoiler → List (List ℕ)
 fault_words limits taken spoiler =
-    fault_marked limits spoiler.fault spoiler.run.ms ∷ record_text taken spoiler.run.first_record ∷ []
+    fault_text limits spoiler.fault spoiler.run.ms ∷ record_text taken spoiler.run.first_record ∷ []
 
 -- the same, and then each run that is wrong
 abbrev pub spoiler_words : Limits → List PlacedRun → Bool → Spoiler → List (List ℕ)

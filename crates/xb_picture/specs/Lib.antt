@@ -1,5 +1,4 @@
 pub mod Labels
-pub mod Shapes
 pub mod Said
 pub mod Courses
 pub mod Digits

@@ -3,12 +3,10 @@ ghost use Rattle.std.specs.Prelude.{◌≡◌, ◌<◌, ◌^◌, OnOk};
 ghost use Rattle.xb_picture.specs.Said.{says};
 
 use crate::course::{SHOWN, drawn};
-use crate::label::Label;
 use crate::look::SMALL;
 use crate::places::{AXIS, AXIS_WIDTH, LONG_TICK, MARK_WIDTH, SECONDS, SHORT_TICK};
-use crate::shape::Shape;
-use crate::sheet::{Sheet, below, put, put_line};
-use std::alloc::{AllocError, Global};
+use crate::sheet::{Sheet, below, put_ground, put_line, put_own};
+use std::alloc::AllocError;
 use xb_heard::PlacedRun;
 use xb_svg::{Ink, Step};
 
@@ -38,32 +36,25 @@ const HALF_SECOND: u64 = 500;
 const MOST_TICKS: u64 = 4;
 
 // Draws a tick at this place, the longer one with its second if it is whole.
-fn put_tick(alloc: Global, sheet: &mut Sheet, x: u64, half_seconds: u64) -> Result<(), AllocError>
+fn put_tick(sheet: &mut Sheet, x: u64, half_seconds: u64) -> Result<(), AllocError>
     ensures { OnOk result (says sheet.new ≡ says sheet.old) }
 {
     let is_whole = half_seconds % 2 == 0;
     let depth = if is_whole { LONG_TICK } else { SHORT_TICK };
     let (from, to) = (below(sheet, AXIS), below(sheet, AXIS + depth));
-    let steps = vec![in alloc; Step::Move(x, from), Step::Upright(to)]?;
+    let steps = vec![in sheet.alloc; Step::Move(x, from), Step::Upright(to)]?;
     put_line(sheet, steps, Ink::Faint, AXIS_WIDTH)?;
     if is_whole {
+        let second = half_seconds / 2;
+        let words = format!(in sheet.alloc; "{second} s")?;
         let y = below(sheet, SECONDS);
-        put(
-            sheet,
-            Shape::Text(x, y, SMALL, Label::Second(half_seconds / 2)),
-        )?;
+        put_own(sheet, x, y, SMALL, words)?;
     }
     Ok(())
 }
 
 // Draws the ticks of so many ms, each half second, where they begin at this place and moment.
-fn put_ticks(
-    alloc: Global,
-    sheet: &mut Sheet,
-    x: u32,
-    moment: u64,
-    ms: u32,
-) -> Result<(), AllocError>
+fn put_ticks(sheet: &mut Sheet, x: u32, moment: u64, ms: u32) -> Result<(), AllocError>
     ensures { OnOk result (says sheet.new ≡ says sheet.old) }
 {
     let first = moment.saturating_add(HALF_SECOND - 1) / HALF_SECOND;
@@ -72,14 +63,14 @@ fn put_ticks(
             .saturating_mul(HALF_SECOND)
             .saturating_sub(moment);
         if after < u64::from(ms) {
-            put_tick(alloc, sheet, u64::from(x) + after, half_seconds)?;
+            put_tick(sheet, u64::from(x) + after, half_seconds)?;
         }
     }
     Ok(())
 }
 
 // Draws a tear at this place.
-fn put_tear(alloc: Global, sheet: &mut Sheet, x: u64, depth: u16) -> Result<(), AllocError>
+fn put_tear(sheet: &mut Sheet, x: u64, depth: u16) -> Result<(), AllocError>
     requires { x < 2 ^ 40 }
     ensures { OnOk result (says sheet.new ≡ says sheet.old) }
 {
@@ -87,11 +78,8 @@ fn put_tear(alloc: Global, sheet: &mut Sheet, x: u64, depth: u16) -> Result<(), 
     let (above, under) = (y.saturating_sub(TEAR_RISE), y.saturating_add(TEAR_RISE));
     let left = x.saturating_sub(TEAR_WIDTH / 2);
     let ground = x.saturating_sub(GROUND / 2);
-    put(
-        sheet,
-        Shape::Band(ground, above, GROUND, 2 * TEAR_RISE, Ink::White),
-    )?;
-    let steps = vec![in alloc;
+    put_ground(sheet, ground, above, GROUND, 2 * TEAR_RISE, Ink::White)?;
+    let steps = vec![in sheet.alloc;
         Step::Move(left, under),
         Step::Straight(left + STROKE, above),
         Step::Move(left + SECOND_STROKE, under),
@@ -101,7 +89,7 @@ fn put_tear(alloc: Global, sheet: &mut Sheet, x: u64, depth: u16) -> Result<(), 
 }
 
 // Draws the ticks of a run that is torn, and its tears in the loop and in the axis.
-fn put_torn(alloc: Global, sheet: &mut Sheet, run: &PlacedRun, depth: u16) -> Result<(), AllocError>
+fn put_torn(sheet: &mut Sheet, run: &PlacedRun, depth: u16) -> Result<(), AllocError>
     ensures { OnOk result (says sheet.new ≡ says sheet.old) }
 {
     let x = sheet.x;
@@ -109,36 +97,25 @@ fn put_torn(alloc: Global, sheet: &mut Sheet, run: &PlacedRun, depth: u16) -> Re
         .start
         .saturating_add(run.ms)
         .saturating_sub(u64::from(BESIDE_TEAR));
-    put_ticks(alloc, sheet, x, run.start, BESIDE_TEAR)?;
-    put_ticks(
-        alloc,
-        sheet,
-        x.saturating_add(AFTER_TEAR),
-        late,
-        BESIDE_TEAR,
-    )?;
-    put_tear(alloc, sheet, u64::from(x) + TEAR, depth)?;
-    put_tear(alloc, sheet, u64::from(x) + TEAR, AXIS)
+    put_ticks(sheet, x, run.start, BESIDE_TEAR)?;
+    put_ticks(sheet, x.saturating_add(AFTER_TEAR), late, BESIDE_TEAR)?;
+    put_tear(sheet, u64::from(x) + TEAR, depth)?;
+    put_tear(sheet, u64::from(x) + TEAR, AXIS)
 }
 
 // Draws the axis below a run, which the loop has at this depth, and ends the row after it.
-pub(crate) fn put_axis(
-    alloc: Global,
-    sheet: &mut Sheet,
-    run: &PlacedRun,
-    depth: u16,
-) -> Result<(), AllocError>
+pub(crate) fn put_axis(sheet: &mut Sheet, run: &PlacedRun, depth: u16) -> Result<(), AllocError>
     ensures { OnOk result (says sheet.new ≡ says sheet.old) }
 {
     let (x, width) = (sheet.x, drawn(run));
     let end = x.saturating_add(width);
     let y = below(sheet, AXIS);
-    let steps = vec![in alloc; Step::Move(u64::from(x), y), Step::Across(u64::from(end))]?;
+    let steps = vec![in sheet.alloc; Step::Move(u64::from(x), y), Step::Across(u64::from(end))]?;
     put_line(sheet, steps, Ink::Faint, AXIS_WIDTH)?;
     if run.ms > SHOWN {
-        put_torn(alloc, sheet, run, depth)?;
+        put_torn(sheet, run, depth)?;
     } else {
-        put_ticks(alloc, sheet, x, run.start, width)?;
+        put_ticks(sheet, x, run.start, width)?;
     }
     sheet.x = end;
     Ok(())

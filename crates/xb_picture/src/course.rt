@@ -6,7 +6,7 @@ ghost use Rattle.xb_picture.specs.Said.{says};
 use crate::axis::put_axis;
 use crate::places::{HIGH, LOOP_WIDTH, LOW};
 use crate::sheet::{Sheet, below, put_line};
-use std::alloc::{AllocError, Global};
+use std::alloc::AllocError;
 use xb_heard::PlacedRun;
 use xb_model::Contact;
 use xb_svg::{Ink, Step};
@@ -57,9 +57,9 @@ fn depth_of(run: &PlacedRun) -> u16 {
 }
 
 // The line of a loop that was closed before these runs.
-fn line_of(alloc: Global, sheet: &Sheet, runs: &[PlacedRun]) -> Result<Vec<Step>, AllocError> {
+fn line_of(sheet: &Sheet, runs: &[PlacedRun]) -> Result<Vec<Step>, AllocError> {
     let mut x = sheet.x;
-    let mut steps = Vec::new(alloc);
+    let mut steps = Vec::new(sheet.alloc);
     steps.push(Step::Move(u64::from(x), below(sheet, HIGH)))?;
     for run in runs {
         x = x.saturating_add(drawn(run));
@@ -70,17 +70,13 @@ fn line_of(alloc: Global, sheet: &Sheet, runs: &[PlacedRun]) -> Result<Vec<Step>
 }
 
 // Draws runs, and the axis below them, where the current row ends; they are its new end.
-pub(crate) fn put_runs(
-    alloc: Global,
-    sheet: &mut Sheet,
-    runs: &[PlacedRun],
-) -> Result<(), AllocError>
+pub(crate) fn put_runs(sheet: &mut Sheet, runs: &[PlacedRun]) -> Result<(), AllocError>
     ensures { OnOk result (says sheet.new ≡ says sheet.old) }
 {
-    let steps = line_of(alloc, sheet, runs)?;
+    let steps = line_of(sheet, runs)?;
     put_line(sheet, steps, Ink::Dark, LOOP_WIDTH)?;
     for run in runs {
-        put_axis(alloc, sheet, run, depth_of(run))?;
+        put_axis(sheet, run, depth_of(run))?;
     }
     Ok(())
 }

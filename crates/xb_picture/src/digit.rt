@@ -6,12 +6,11 @@ ghost use Rattle.xb_picture.specs.Said.{says};
 
 use crate::course::{TRAIN, drawn, fitting, put_runs, width_of};
 use crate::figures::{put_figures, put_make, put_value};
-use crate::label::Caption;
 use crate::look::SMALL;
 use crate::places::UNDER;
 use crate::sheet::{Sheet, make_room, put_band, put_caption};
 use crate::wrong::{put_fault, put_wrong};
-use std::alloc::{AllocError, Global};
+use std::alloc::AllocError;
 use xb_heard::{DigitRow, HeardDigit, PlacedRun, Remark, row_of};
 use xb_model::{Dialled, Limits};
 use xb_report::{is_taken, is_timed_out};
@@ -28,7 +27,6 @@ fn inks_of(remark: Remark) -> (Ink, Ink) {
 
 // Says under a digit what it is like, or what spoils it.
 fn put_remark(
-    alloc: Global,
     sheet: &mut Sheet,
     limits: Limits,
     from: u32,
@@ -43,19 +41,18 @@ fn put_remark(
         Remark::Good => put_figures(sheet, middle, row),
         Remark::Spoiled(spoiler) => {
             put_fault(sheet, limits, middle, spoiler, true)?;
-            put_wrong(alloc, sheet, limits, from, fitting(TRAIN, pulses))
+            put_wrong(sheet, limits, from, fitting(TRAIN, pulses))
         }
-        Remark::Ignored(None) => put_caption(sheet, middle, UNDER, SMALL, Caption::Ignored),
+        Remark::Ignored(None) => put_caption(sheet, middle, UNDER, SMALL, "ignored"),
         Remark::Ignored(Some(spoiler)) => {
             put_fault(sheet, limits, middle, spoiler, false)?;
-            put_wrong(alloc, sheet, limits, from, fitting(TRAIN, pulses))
+            put_wrong(sheet, limits, from, fitting(TRAIN, pulses))
         }
     }
 }
 
 // Draws a digit and its pause.
 fn put_digit(
-    alloc: Global,
     sheet: &mut Sheet,
     limits: Limits,
     digit: &HeardDigit,
@@ -66,21 +63,20 @@ fn put_digit(
 {
     let shown = fitting(TRAIN, digit.pulses);
     let width = width_of(shown);
-    make_room(alloc, sheet, width.saturating_add(drawn(&digit.pause)))?;
+    make_room(sheet, width.saturating_add(drawn(&digit.pause)))?;
     let from = sheet.x;
     let middle = u64::from(from) + u64::from(width / 2);
     let (ground, ink) = inks_of(row.remark);
     put_band(sheet, from, width, ground)?;
-    put_runs(alloc, sheet, shown)?;
+    put_runs(sheet, shown)?;
     put_value(sheet, middle, ink, row.name)?;
-    put_remark(alloc, sheet, limits, from, middle, digit.pulses, row)?;
+    put_remark(sheet, limits, from, middle, digit.pulses, row)?;
     put_make(sheet, &digit.pause, timed_out)?;
-    put_runs(alloc, sheet, &[digit.pause])
+    put_runs(sheet, &[digit.pause])
 }
 
 // Draws digits, each with its pause.
 pub(crate) fn put_digits(
-    alloc: Global,
     sheet: &mut Sheet,
     limits: Limits,
     outcome: &Dialled,
@@ -92,7 +88,7 @@ pub(crate) fn put_digits(
     for (index, digit) in digits.iter().enumerate() {
         let timed_out = is_timed_out(outcome) && digit.pause.ms >= u64::from(limits.timeout);
         let row = row_of(digit, is_taken(outcome, index));
-        put_digit(alloc, sheet, limits, digit, row, timed_out)?;
+        put_digit(sheet, limits, digit, row, timed_out)?;
     }
     Ok(())
 }

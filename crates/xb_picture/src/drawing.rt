@@ -4,10 +4,11 @@ ghost use Rattle.xb_heard.specs.Attempts.{attempt_in};
 ghost use Rattle.xb_picture.specs.Drawing.{IsPicture, many, skipped};
 
 use crate::picture::{MOST_ATTEMPTS, WIDTH, picture_of};
-use crate::writing::push_picture;
+use crate::sheet::height_of;
 use std::alloc::{AllocError, Global};
 use xb_heard::HeardAttempt;
 use xb_model::{Limits, LineNo};
+use xb_svg::push_drawing;
 
 // How many attempts stand before those that are drawn.
 fn skipped(attempt: Option<u32>) -> usize
@@ -41,8 +42,7 @@ pub fn draw_attempts(
     ensures { IfOk result (λ text. IsPicture limits line attempt
         (map attempt_in attempts.now) (string_bytes text)) }
 {
-    let mut out = String::new(alloc);
-    let picture = picture_of(
+    let sheet = picture_of(
         alloc,
         limits,
         line,
@@ -50,6 +50,7 @@ pub fn draw_attempts(
         many(attempt),
         attempts,
     )?;
-    push_picture(&mut out, WIDTH, picture.height, &picture.shapes)?;
+    let mut out = String::new(alloc);
+    push_drawing(&mut out, WIDTH, height_of(&sheet), &sheet.elements)?;
     Ok(out)
 }

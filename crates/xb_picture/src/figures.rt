@@ -1,20 +1,33 @@
 // The figures of a digit, and the times of makes.
-ghost use Rattle.std.specs.Prelude.{◌≡◌, ◌++◌, OnOk, codes};
-ghost use Rattle.xb_picture.specs.Digits.{figure_words, make_words, tenths_words, value_words};
+ghost use Rattle.std.specs.Prelude.{◌≡◌, ◌++◌, ◌∷◌, [], OnOk, codes};
+ghost use Rattle.xb_picture.specs.Digits.{figure_words, make_words, tenths_words, time_text, value_words};
 ghost use Rattle.xb_picture.specs.Said.{says};
 
 use crate::course::drawn;
-use crate::label::{Caption, Label};
+use crate::label::with_unit;
 use crate::look::{BIG_VALUE, PLAIN_RED, RED, SMALL};
 use crate::places::{OVER_TIME, TIME, UNDER, UNDER_THAT, VALUE};
-use crate::shape::Shape;
-use crate::sheet::{Sheet, below, put, put_caption};
+use crate::sheet::{Sheet, below, put_caption, put_number, put_text};
 use std::alloc::AllocError;
 use xb_heard::{DigitRow, PlacedRun};
 use xb_svg::{Ink, Look};
 
 // A make of so many ms has its time over it.
 pub(crate) const TOLD: u64 = 300;
+
+// Writes how long a run is.
+pub(crate) fn put_time(
+    sheet: &mut Sheet,
+    x: u64,
+    y: u64,
+    look: Look,
+    ms: u64,
+) -> Result<(), AllocError>
+    ensures { OnOk result (says sheet.new ≡ says sheet.old ++ time_text ms ∷ []) }
+{
+    let words = format!(in sheet.alloc; "{ms} ms")?;
+    put_text(sheet, x, y, look, words)
+}
 
 // Writes the time over a make that is long enough, where the row ends; red where it timed the attempt out.
 pub(crate) fn put_make(
@@ -29,11 +42,11 @@ pub(crate) fn put_make(
     }
     let middle = u64::from(sheet.x) + u64::from(drawn(run) / 2);
     if timed_out {
-        put_caption(sheet, middle, OVER_TIME, RED, Caption::TimeOut)?;
+        put_caption(sheet, middle, OVER_TIME, RED, "time-out")?;
     }
     let look = if timed_out { PLAIN_RED } else { SMALL };
     let y = below(sheet, TIME);
-    put(sheet, Shape::Text(middle, y, look, Label::Time(run.ms)))
+    put_time(sheet, middle, y, look, run.ms)
 }
 
 // Writes the value of a digit over it, or a cross where it is spoiled.
@@ -49,9 +62,9 @@ pub(crate) fn put_value(
     match name {
         Some(digit) => {
             let y = below(sheet, VALUE);
-            put(sheet, Shape::Text(middle, y, look, Label::Value(digit)))
+            put_number(sheet, middle, y, look, digit)
         }
-        None => put_caption(sheet, middle, VALUE, look, Caption::Cross),
+        None => put_caption(sheet, middle, VALUE, look, "×"),
     }
 }
 
@@ -61,10 +74,11 @@ fn put_speed(sheet: &mut Sheet, middle: u64, speed: Option<u128>) -> Result<(), 
 {
     match speed {
         Some(tenths) => {
+            let words = with_unit(sheet.alloc, tenths, "/s")?;
             let y = below(sheet, UNDER);
-            put(sheet, Shape::Text(middle, y, SMALL, Label::Speed(tenths)))
+            put_text(sheet, middle, y, SMALL, words)
         }
-        None => put_caption(sheet, middle, UNDER, SMALL, Caption::OnePulse),
+        None => put_caption(sheet, middle, UNDER, SMALL, "1 pulse"),
     }
 }
 
@@ -74,9 +88,10 @@ fn put_share(sheet: &mut Sheet, middle: u64, share: Option<u128>) -> Result<(), 
 {
     match share {
         Some(tenths) => {
+            let words = with_unit(sheet.alloc, tenths, " %")?;
             let y = below(sheet, UNDER_THAT);
-            put(sheet, Shape::Text(middle, y, SMALL, Label::Share(tenths)))
-        },
+            put_text(sheet, middle, y, SMALL, words)
+        }
         None => Ok(()),
     }
 }

@@ -1,95 +1,14 @@
-// What a text of a picture says.
-ghost use Rattle.std.specs.Prelude.{◌≡◌, ◌++◌, OnOk, string_bytes};
-ghost use Rattle.xb_picture.specs.Labels.{caption_text, label_text, left_out_text, limits_words, record_text, tenths_with};
+// What the texts of a picture say.
+ghost use Rattle.std.specs.Prelude.{◌≡◌, ◌++◌, IfOk, OnOk, codes, string_bytes};
+ghost use Rattle.xb_model.specs.Page.{four_digits};
+ghost use Rattle.xb_report.specs.Cells.{place_text};
+ghost use Rattle.xb_report.specs.Words.{fault_text, outcome_text};
+ghost use Rattle.xb_picture.specs.Labels.{left_out_text, limits_words, record_text, tenths_with};
 
-use std::alloc::AllocError;
-use xb_heard::{PlacedRun, PulseFault};
+use std::alloc::{AllocError, Global};
+use xb_heard::{PlacedRun, Spoiler};
 use xb_model::{Dialled, Limits, LineNo};
-use xb_report::{push_line, push_marked_fault, push_outcome, push_place};
-
-/// The words that a picture has of its own.
-#[derive(Clone, Copy, Debug, PartialEq, Eq)]
-pub enum Caption {
-    /// Beside the height of a closed loop.
-    Closed,
-    /// Beside the height of an open loop.
-    Open,
-    /// Over a digit that is spoiled: a cross.
-    Cross,
-    /// Over pulses that no pause ended: three dots.
-    Dots,
-    /// Under a good digit that the register did not take.
-    Ignored,
-    /// Under a digit of one pulse.
-    OnePulse,
-    /// Over a make that timed the attempt out.
-    TimeOut,
-    /// Over what is not heard, after a make that ends the hearing.
-    NotHeard,
-    /// Under the break that hangs up.
-    HangsUp,
-    /// Where the record ends and nobody hung up.
-    RecordEnds,
-    /// Where a line has no attempt.
-    NoAttempt,
-}
-
-/// What a text of a picture says.
-#[derive(Drop)]
-pub enum Label<'a> {
-    /// Words of the picture's own.
-    Caption(Caption),
-    /// The line that is drawn.
-    Line(LineNo),
-    /// The limits by which it was heard.
-    Limits(Limits),
-    /// The number of an attempt, from 1.
-    Attempt(usize),
-    /// What came of an attempt.
-    Outcome(&'a Dialled),
-    /// Where an attempt begins.
-    From(PlacedRun),
-    /// The value of a digit, 0 to 9.
-    Value(u64),
-    /// Pulses a second, in tenths.
-    Speed(u128),
-    /// How much of the time is break, in tenths of a percent.
-    Share(u128),
-    /// What is wrong with a run of so many ms, by these limits.
-    Fault(Limits, PulseFault, u64),
-    /// The record where it stands, and whether the register took the digit.
-    Record(u32, bool),
-    /// How long a run is, in ms.
-    Time(u64),
-    /// How long a run is that is wrong, in ms.
-    Wrong(u64),
-    /// How many pulses no pause ended.
-    Unended(u64),
-    /// How many digits more there are than are drawn.
-    MoreDigits(usize),
-    /// How many attempts there are before those that are drawn, and how many after them.
-    Others(usize, usize),
-    /// A second of the recording.
-    Second(u64),
-}
-
-fn caption_text(caption: Caption) -> &'static str
-    ensures { result.now ≡ caption_text caption }
-{
-    match caption {
-        Caption::Closed => "closed",
-        Caption::Open => "open",
-        Caption::Cross => "&#215;",
-        Caption::Dots => "&#8230;",
-        Caption::Ignored => "ignored",
-        Caption::OnePulse => "1 pulse",
-        Caption::TimeOut => "time-out",
-        Caption::NotHeard => "not heard",
-        Caption::HangsUp => "hangs up",
-        Caption::RecordEnds => "record ends",
-        Caption::NoAttempt => "no attempt",
-    }
-}
+use xb_report::{push_fault, push_line, push_outcome, push_place};
 
 // Puts the limits after the text, in words.
 fn push_limits(out: &mut String, limits: Limits) -> Result<(), AllocError>
@@ -143,33 +62,88 @@ fn push_others(out: &mut String, before: usize, after: usize) -> Result<(), Allo
     )
 }
 
-// Puts what a label says after the text.
-pub(crate) fn push_label(out: &mut String, label: &Label) -> Result<(), AllocError>
-    ensures { OnOk result (string_bytes out.new ≡ string_bytes out.old ++ label_text label.now) }
+// The line that is drawn.
+pub(crate) fn line_words(alloc: Global, line: LineNo) -> Result<String, AllocError>
+    ensures { IfOk result (λ text. string_bytes text ≡ codes "line " ++ four_digits line) }
 {
-    match label {
-        Label::Caption(caption) => out.push_str(caption_text(*caption)),
-        Label::Line(line) => {
-            out.push_str("line ")?;
-            push_line(out, *line)
-        }
-        Label::Limits(limits) => push_limits(out, *limits),
-        Label::Attempt(number) => write!(out, "attempt {number}"),
-        Label::Outcome(outcome) => push_outcome(out, outcome),
-        Label::From(run) => {
-            out.push_str("from ")?;
-            push_place(out, run)
-        }
-        Label::Value(value) => write!(out, "{value}"),
-        Label::Speed(tenths) => push_tenths(out, *tenths, "/s"),
-        Label::Share(tenths) => push_tenths(out, *tenths, " %"),
-        Label::Fault(limits, fault, ms) => push_marked_fault(out, *limits, *fault, *ms),
-        Label::Record(record, taken) => push_record(out, *record, *taken),
-        Label::Time(ms) => write!(out, "{ms} ms"),
-        Label::Wrong(ms) => write!(out, "{ms}"),
-        Label::Unended(pulses) => write!(out, "{pulses} not ended"),
-        Label::MoreDigits(digits) => write!(out, "{digits} more digits are not drawn"),
-        Label::Others(before, after) => push_others(out, *before, *after),
-        Label::Second(second) => write!(out, "{second} s"),
-    }
+    let mut text = String::from_str(alloc, "line ")?;
+    push_line(&mut text, line)?;
+    Ok(text)
+}
+
+// The limits by which it was heard.
+pub(crate) fn limits_words(alloc: Global, limits: Limits) -> Result<String, AllocError>
+    ensures { IfOk result (λ text. string_bytes text ≡ limits_words limits) }
+{
+    let mut text = String::new(alloc);
+    push_limits(&mut text, limits)?;
+    Ok(text)
+}
+
+// How many attempts there are before those that are drawn, and how many after them.
+pub(crate) fn left_out_words(
+    alloc: Global,
+    before: usize,
+    after: usize,
+) -> Result<String, AllocError>
+    ensures { IfOk result (λ text. string_bytes text ≡ left_out_text before after) }
+{
+    let mut text = String::new(alloc);
+    push_others(&mut text, before, after)?;
+    Ok(text)
+}
+
+// What came of an attempt.
+pub(crate) fn outcome_words(alloc: Global, outcome: &Dialled) -> Result<String, AllocError>
+    ensures { IfOk result (λ text. string_bytes text ≡ outcome_text outcome.now) }
+{
+    let mut text = String::new(alloc);
+    push_outcome(&mut text, outcome)?;
+    Ok(text)
+}
+
+// Where an attempt begins.
+pub(crate) fn from_words(alloc: Global, run: &PlacedRun) -> Result<String, AllocError>
+    ensures { IfOk result (λ text. string_bytes text ≡ codes "from " ++ place_text run.now) }
+{
+    let mut text = String::from_str(alloc, "from ")?;
+    push_place(&mut text, run)?;
+    Ok(text)
+}
+
+// A number in tenths, and its unit.
+pub(crate) fn with_unit(alloc: Global, tenths: u128, unit: &str) -> Result<String, AllocError>
+    ensures { IfOk result (λ text. string_bytes text ≡ tenths_with tenths unit.now) }
+{
+    let mut text = String::new(alloc);
+    push_tenths(&mut text, tenths, unit)?;
+    Ok(text)
+}
+
+// What spoils a digit, by these limits.
+pub(crate) fn spoiled_words(
+    alloc: Global,
+    limits: Limits,
+    spoiler: Spoiler,
+) -> Result<String, AllocError>
+    ensures { IfOk result (λ text. string_bytes text
+        ≡ fault_text limits spoiler.fault spoiler.run.ms) }
+{
+    let mut text = String::new(alloc);
+    push_fault(&mut text, limits, spoiler.fault, spoiler.run.ms)?;
+    Ok(text)
+}
+
+// The record where that stands, of a digit that the register took, or did not.
+pub(crate) fn record_words(
+    alloc: Global,
+    spoiler: Spoiler,
+    taken: bool,
+) -> Result<String, AllocError>
+    ensures { IfOk result (λ text. string_bytes text
+        ≡ record_text taken spoiler.run.first_record) }
+{
+    let mut text = String::new(alloc);
+    push_record(&mut text, spoiler.run.first_record, taken)?;
+    Ok(text)
 }

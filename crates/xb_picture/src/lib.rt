@@ -1,12 +1,10 @@
 //! Draws what was heard as a picture: the loop of a line over time, in SVG.
 //!
-//! - `picture_of`: the texts of the picture, except words of its own and the seconds of its axis, are exactly
-//!   `picture_words` of the attempts, in order: headings, values, figures and faults of digits, the ms of
-//!   each wrong run that is drawn, and how many attempts and digits are not drawn.
-//! - `push_picture` writes exactly the text of the shapes, one element for each shape. The signs of a fault
-//!   are written as XML wants them.
+//! - `draw_attempts`: the picture says exactly `picture_words` of the attempts, in order: headings, values, figures and
+//!   faults of digits, the ms of each wrong run that is drawn, and how many attempts and digits are not drawn. Each word
+//!   is escaped, and each element closed (`drawing_text` of `xb_svg`).
 //!
-//! Not said: where a shape stands, its colours, and that such a text is XML.
+//! Not said: where an element stands, its colours, words of the picture's own, and the seconds of its axis.
 #![tactic(auto)]
 
 mod attempt;
@@ -16,17 +14,13 @@ mod digit;
 mod drawing;
 mod figures;
 mod label;
+pub mod laws;
 mod look;
 mod picture;
 mod places;
-mod shape;
 mod sheet;
-mod writing;
 mod wrong;
 
 pub use attempt::MOST_DIGITS;
 pub use drawing::draw_attempts;
-pub use label::{Caption, Label};
-pub use picture::{MOST_ATTEMPTS, Picture, WIDTH, picture_of};
-pub use shape::Shape;
-pub use writing::push_picture;
+pub use picture::MOST_ATTEMPTS;

@@ -5,20 +5,19 @@ ghost use Rattle.xb_picture.specs.Digits.{fault_words, wrong_words};
 ghost use Rattle.xb_picture.specs.Said.{says};
 
 use crate::course::drawn;
-use crate::label::Label;
+use crate::label::{record_words, spoiled_words};
 use crate::look::{PLAIN_RED, RED, SHORT_RED, SMALL};
 use crate::places::{
     FAULT_MIDDLE, HIGH, LEFT, LOW, OVER_WRONG, UNDER, UNDER_THAT, UNDER_WRONG, WRONG_WIDTH,
 };
-use crate::shape::Shape;
-use crate::sheet::{Sheet, below, put, put_line};
-use std::alloc::{AllocError, Global};
+use crate::sheet::{Sheet, below, put_line, put_number, put_text};
+use std::alloc::AllocError;
 use xb_heard::{PlacedRun, Spoiler, fault_at};
 use xb_model::{Contact, Limits};
 use xb_svg::{Ink, Look, Step};
 
 // Draws a run in red over the loop, and says how long it is: a break below it, a make above.
-fn put_red(alloc: Global, sheet: &mut Sheet, run: &PlacedRun, x: u32) -> Result<(), AllocError>
+fn put_red(sheet: &mut Sheet, run: &PlacedRun, x: u32) -> Result<(), AllocError>
     ensures { OnOk result (says sheet.new ≡ says sheet.old ++ decimal run.now.ms ∷ []) }
 {
     let (from, to, depth) = match run.contact {
@@ -27,7 +26,7 @@ fn put_red(alloc: Global, sheet: &mut Sheet, run: &PlacedRun, x: u32) -> Result<
     };
     let (from, to) = (below(sheet, from), below(sheet, to));
     let end = x.saturating_add(drawn(run));
-    let steps = vec![in alloc;
+    let steps = vec![in sheet.alloc;
         Step::Move(u64::from(x), from),
         Step::Upright(to),
         Step::Across(u64::from(end)),
@@ -36,10 +35,7 @@ fn put_red(alloc: Global, sheet: &mut Sheet, run: &PlacedRun, x: u32) -> Result<
     put_line(sheet, steps, Ink::Red, WRONG_WIDTH)?;
     let middle = u64::from(x) + u64::from(drawn(run) / 2);
     let y = below(sheet, depth);
-    put(
-        sheet,
-        Shape::Text(middle, y, SHORT_RED, Label::Wrong(run.ms)),
-    )
+    put_number(sheet, middle, y, SHORT_RED, run.ms)
 }
 
 // Whether a break ends there that is counted.
@@ -54,7 +50,6 @@ fn one_if_break(contact: Contact) -> usize
 
 // Draws each run of a train that is wrong in red, where the train begins at this place.
 pub(crate) fn put_wrong(
-    alloc: Global,
     sheet: &mut Sheet,
     limits: Limits,
     from: u32,
@@ -67,7 +62,7 @@ pub(crate) fn put_wrong(
     for run in train {
         breaks += one_if_break(run.contact);
         if fault_at(limits, breaks, run.contact, run.ms).is_some() {
-            put_red(alloc, sheet, run, x)?;
+            put_red(sheet, run, x)?;
         }
         x = x.saturating_add(drawn(run));
     }
@@ -93,17 +88,12 @@ pub(crate) fn put_fault(
 ) -> Result<(), AllocError>
     ensures { OnOk result (says sheet.new ≡ says sheet.old ++ fault_words limits taken spoiler) }
 {
-    let Spoiler { fault, run } = spoiler;
     let (above, under) = looks_of(taken);
     let at = middle.max(u64::from(LEFT) + FAULT_MIDDLE);
+    let words = spoiled_words(sheet.alloc, limits, spoiler)?;
     let y = below(sheet, UNDER);
-    put(
-        sheet,
-        Shape::Text(at, y, above, Label::Fault(limits, fault, run.ms)),
-    )?;
+    put_text(sheet, at, y, above, words)?;
+    let record = record_words(sheet.alloc, spoiler, taken)?;
     let y = below(sheet, UNDER_THAT);
-    put(
-        sheet,
-        Shape::Text(at, y, under, Label::Record(run.first_record, taken)),
-    )
+    put_text(sheet, at, y, under, record)
 }

@@ -10,7 +10,7 @@ use Rattle.xb_turns.specs.declared.windows.Windows.{Windows}
 use Rattle.xb_plot.specs.declared.figure.Figure.{Figure}
 use Rattle.xb_plot.specs.declared.figure.Figure.TheVariants.{Share, Speed}
 use Rattle.xb_plot.specs.declared.places.TheConstants.{BESIDE, DROP, LEFT, LIMIT_WIDTH, PANEL_HEIGHT, PANEL_WIDTH, RIGHT}
-use Rattle.xb_plot.specs.Looks.{number}
+use Rattle.xb_plot.specs.declared.bands.TheConstants.{NUMBER}
 use Rattle.xb_plot.specs.Figures.{axis_least, axis_most, place_of, top_of, window_of}
 
 abbrev pub window_text : Figure → Windows → Window → Ink → List ℕ
@@ -36,7 +36,7 @@ bands_text figure windows = accept_text figure windows ++ adjust_text figure win
 abbrev pub limit_text : Figure → Windows → ℕ → List ℕ
 limit_text figure windows tenths =
     dashed_line_text (Move LEFT (place_of figure windows tenths) ∷ Across RIGHT ∷ []) Faint LIMIT_WIDTH
-    ++ text_start (LEFT - BESIDE) (place_of figure windows tenths + DROP) number ++ tenths_text tenths
+    ++ text_start (LEFT - BESIDE) (place_of figure windows tenths + DROP) NUMBER ++ tenths_text tenths
     ++ text_end
 
 unfoldable pub ends_text : Figure → Windows → List ℕ

@@ -2,7 +2,6 @@ pub mod Turns
 pub mod TurnLaws
 pub mod Places
 pub mod Figures
-pub mod Looks
 pub mod Names
 pub mod Dots
 pub mod Bands

@@ -7,7 +7,7 @@ use Rattle.xb_turns.specs.declared.train.Train.{Train}
 use Rattle.xb_turns.specs.declared.train.Wrong.{Wrong}
 use Rattle.xb_plot.specs.declared.places.TheConstants.{NAMED_STEP, NAMES}
 use Rattle.xb_plot.specs.declared.turns.Turn.{Turn}
-use Rattle.xb_plot.specs.Looks.{good, spoiled}
+use Rattle.xb_plot.specs.declared.names.TheConstants.{GOOD, SPOILED}
 use Rattle.xb_plot.specs.Places.{place_in_order, step_of}
 
 -- the digit, or x where it is spoiled
@@ -19,8 +19,8 @@ unfoldable pub name_text : Train → List ℕ
 name_text train = name_by train.pulses train.wrong
 
 abbrev pub look_by : Option Wrong → Look
-look_by None = good
-look_by (Some wrong) = spoiled
+look_by None = GOOD
+look_by (Some wrong) = SPOILED
 
 abbrev pub look_of : Train → Look
 look_of train = look_by train.wrong

@@ -8,10 +8,10 @@ use Rattle.xb_plot.specs.declared.turns.Turn.{Turn}
 use Rattle.xb_plot.specs.Bands.{bands_text, limits_text}
 use Rattle.xb_plot.specs.Dots.{dots_text}
 use Rattle.xb_plot.specs.Figures.{name_of, top_of}
-use Rattle.xb_plot.specs.Looks.{heading}
+use Rattle.xb_plot.specs.declared.panel.TheConstants.{HEADING}
 
 unfoldable pub heading_text : Figure → List ℕ
-heading_text figure = words_text LEFT (top_of figure - ABOVE) heading (name_of figure)
+heading_text figure = words_text LEFT (top_of figure - ABOVE) HEADING (name_of figure)
 
 unfoldable pub panel_text : Panel → List Turn → List ℕ
 panel_text panel turns =

@@ -9,22 +9,22 @@ use Rattle.xb_plot.specs.declared.figure.Figure.TheVariants.{Share, Speed}
 use Rattle.xb_plot.specs.declared.panel.Panel.{Panel}
 use Rattle.xb_plot.specs.declared.places.TheConstants.{LEFT, LEGEND, OLDER, SUMMARY, TITLE, WHOLE_HEIGHT, WIDTH}
 use Rattle.xb_plot.specs.declared.turns.Turn.{Turn}
-use Rattle.xb_plot.specs.Looks.{big, note}
+use Rattle.xb_plot.specs.declared.plot.TheConstants.{BIG, NOTE}
 use Rattle.xb_plot.specs.Names.{names_text}
 use Rattle.xb_plot.specs.Panels.{panel_text}
 
 abbrev pub title_text : ℕ → List ℕ
-title_text line = text_start LEFT TITLE big ++ codes "line " ++ four_digits line ++ text_end
+title_text line = text_start LEFT TITLE BIG ++ codes "line " ++ four_digits line ++ text_end
 
 abbrev pub older_text : ℕ → List ℕ
 older_text older =
     if older == 0 then []
-    else text_start LEFT OLDER note ++ decimal older ++ codes " older digits are not drawn" ++ text_end
+    else text_start LEFT OLDER NOTE ++ decimal older ++ codes " older digits are not drawn" ++ text_end
 
 -- what stands over the panels: the line, what its digits come to, and how many older ones there were
 abbrev pub head_text : ℕ → List ℕ → ℕ → List ℕ
 head_text line summary older =
-    frame_text WIDTH WHOLE_HEIGHT ++ title_text line ++ words_text LEFT SUMMARY note summary
+    frame_text WIDTH WHOLE_HEIGHT ++ title_text line ++ words_text LEFT SUMMARY NOTE summary
     ++ older_text older
 
 -- the speed of the digits, and below it their share of break
@@ -41,7 +41,7 @@ colours =
     codes "green: accepted; dark green: to what dials are adjusted; red: not accepted; grey: too few pulses to judge"
 
 abbrev pub legend_text : List ℕ
-legend_text = words_text LEFT LEGEND note colours
+legend_text = words_text LEFT LEGEND NOTE colours
 
 unfoldable pub plot_text : Windows → Scale → ℕ → List ℕ → ℕ → List Turn → List ℕ
 plot_text windows scale line summary older turns =

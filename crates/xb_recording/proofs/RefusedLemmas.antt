@@ -1,6 +1,6 @@
 -- Why a recording is refused.
 use Rattle.std.proofs.Common.{◌≡◌, ℕ, List, [], ◌++◌, true, Option, None, Some, drop, ap, inl, inr, refl, sym, subst, ◌∙◌}
-use Rattle.std.specs.Prelude.{Err, Ok, Result, length}
+use Rattle.std.specs.Prelude.{Err, Ok, Result}
 use Rattle.xb_csv.specs.Tables.{table_says}
 use Rattle.xb_csv.specs.declared.columns.TableForm.{TableForm}
 use Rattle.xb_csv.specs.declared.columns.TableForm.TheVariants as forms
@@ -8,13 +8,12 @@ use Rattle.xb_vcd.specs.VcdTexts.{vcd_says}
 use Rattle.xb_contact.specs.declared.event.Event.{Event}
 use Rattle.xb_contact.specs.declared.event.Refusal.{Refusal}
 use Rattle.xb_contact.specs.declared.event.Refusal.TheVariants as refusals
-use Rattle.xb_contact.specs.Steps.{IsOnly}
 use Rattle.xb_samples.specs.declared.bits.Bits.{Bits}
 use Rattle.xb_samples.specs.declared.sound.Sound.{Sound}
 use Rattle.xb_riff.specs.declared.coding.Coding.{Coding}
 use Rattle.xb_riff.specs.declared.coding.Coding.TheVariants as coding
 use Rattle.xb_riff.specs.declared.head.WavFormat.{WavFormat}
-use Rattle.xb_samples.specs.Pieces.{RunsOver, samples_events}
+use Rattle.xb_samples.specs.Pieces.{samples_events}
 use Rattle.xb_samples.specs.declared.bits.Width.{Width}
 use Rattle.xb_samples.specs.declared.bits.Width.TheVariants as widths
 use Rattle.xb_samples.specs.Samples.{RefusesBits, bits_fault, bits_reading, bits_say, bits_state}
@@ -28,7 +27,7 @@ use Rattle.xb_recording.specs.declared.reader.Source.{Source}
 use Rattle.xb_recording.specs.declared.reader.Source.TheVariants as sources
 use Rattle.xb_recording.specs.declared.wanted.Wanted.{Wanted}
 use Rattle.xb_csv.specs.Gpiomons.{gpiomon_says}
-use Rattle.xb_recording.specs.Says.{IsBegunBits, IsBegunGpiomon, IsBegunSound, IsBegunTable, IsBegunVcd, IsBegunWav, IsLongText, IsOfFormat, IsRefused, IsTooLong, KeepsRefusals, LinesComeTo, Refuses, RefusesSamples, RefusesText, RestRefused, SamplesRefused, SoundRefused, SourceRefused, TableRefused, TakesText, WavRefused, is_text, lines_in, lines_left, names_in, plain_lines, text_lines}
+use Rattle.xb_recording.specs.Says.{IsBegunBits, IsBegunGpiomon, IsBegunSound, IsBegunTable, IsBegunVcd, IsBegunWav, IsOfFormat, IsRefused, IsTooLong, KeepsRefusals, LinesComeTo, Refuses, RefusesSamples, RestRefused, SamplesRefused, SoundRefused, SourceRefused, TableRefused, TakesText, WavRefused, is_text, lines_in, lines_left, names_in, plain_lines, text_lines}
 use Rattle.xb_recording.proofs.SaidLemmas.{bits_whole, sound_whole}
 
 -- a text is refused by its lines
@@ -42,25 +41,6 @@ lines_refused wanted (sources.Bits bits) lines bytes refusal h k = cc
 lines_refused wanted (sources.WavHead head) lines bytes refusal h k = cc
 lines_refused wanted (sources.Sound sound) lines bytes refusal h k = cc
 
-long_text :
-    (reader : Reader) (source : Source) (bytes : List ℕ) (refusal : Refusal)
-    → is_text source ≡ true → IsLongText reader bytes refusal → IsTooLong reader source bytes refusal
-long_text reader (sources.Vcd vcd) bytes refusal h k = k
-long_text reader (sources.Columns table) bytes refusal h k = k
-long_text reader (sources.Gpiomon gpiomon) bytes refusal h k = k
-long_text reader (sources.Bits bits) bytes refusal h k = cc
-long_text reader (sources.WavHead head) bytes refusal h k = cc
-long_text reader (sources.Sound sound) bytes refusal h k = cc
-
-pub refuses_text :
-    (reader : Reader) (bytes : List ℕ) (refusal : Refusal) → is_text reader.source ≡ true
-    → RefusesText reader bytes refusal → Refuses reader bytes refusal
-refuses_text reader bytes refusal h refused = λ other.
-    elim (refused other) [
-      | inl k ↦ inl (λ text. lines_refused reader.wanted.now reader.source (lines_left reader (bytes ++ text)) (bytes ++ text) refusal h (k text))
-      | inr k ↦ inr (long_text reader reader.source bytes refusal h k)
-    ]
-
 -- raw samples: something is wrong with them, or 2^64 of them have come
 pub bits_are_refused :
     (reader : Reader) (bits : Bits) (bytes : List ℕ) (refusal : Refusal) → reader.source ≡ sources.Bits bits
@@ -73,14 +53,6 @@ bits_are_refused reader bits bytes refusal is refused = λ other.
           let Q : Source → Type 0 = λ s. SourceRefused reader.wanted.now s (lines_left reader (bytes ++ text)) (bytes ++ text) refusal in
           subst Q (sym is) (wrong text))
     ]
-
--- sound after which 2^64 ticks have gone by
-pub sound_late :
-    (reader : Reader) (sound : Sound) (bytes : List ℕ) (refusal : Refusal) → reader.source ≡ sources.Sound sound
-    → RunsOver (sound_state sound).count (length bytes) refusal → IsOnly refusals.TooLate refusal → Refuses reader bytes refusal
-sound_late reader sound bytes refusal is over only = λ other.
-    let P : Source → Type 0 = λ s. IsTooLong reader s bytes refusal in
-    inr (subst P (sym is) (only other, over other))
 
 -- what is refused is not taken, and what is taken is one
 err_or_ok : {A E B : Type 0} {x : A} {e : E} (r : Result A E) → r ≡ Err e → r ≡ Ok x → B
@@ -137,18 +109,6 @@ pub keeps_text :
 keeps_text old new bytes said h taken text refusal k =
     lines_refused old.wanted.now old.source (lines_left old (bytes ++ text)) (bytes ++ text) refusal h
     (taken text (Err refusal) (refused_lines new.wanted.now new.source (lines_left new text) text refusal k))
-
--- of a WAV whose samples have not begun
-pub keeps_head :
-    (reader : Reader) (head after : HeadSoFar) (bytes : List ℕ) → reader.source ≡ sources.WavHead head
-    → TakesHead head bytes None after → KeepsRefusals reader (record reader { source = sources.WavHead after }) bytes
-keeps_head reader head after bytes is taken text refusal k =
-    let P : Source → Type 0 = λ s. SourceRefused reader.wanted.now s (lines_left reader (bytes ++ text)) (bytes ++ text) refusal in
-    let all : WavRefused (HeadBegins head (bytes ++ text)) reader.wanted.now refusal = (
-      λ samples b. k.0 samples (sym (taken text) ∙ b),
-      λ none. k.1 (λ samples b. none samples (taken text ∙ b)),
-    ) in
-    subst P (sym is) all
 
 -- of raw samples
 pub keeps_bits :

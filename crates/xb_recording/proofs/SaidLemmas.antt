@@ -1,5 +1,5 @@
 -- What a recording says.
-use Rattle.std.proofs.Common.{◌≡◌, ℕ, List, [], ◌∷◌, ◌++◌, Bool, true, false, cond, Option, None, Some, refl, ap, sym, subst, ◌∙◌, append_assoc, drop}
+use Rattle.std.proofs.Common.{◌≡◌, ℕ, List, [], ◌++◌, Bool, true, false, cond, Option, None, Some, refl, ap, sym, subst, ◌∙◌, append_assoc, drop}
 use Rattle.std.specs.Prelude.{Result, Ok, Err}
 use Rattle.std.specs.Result.{result_unwrap_or}
 use Rattle.xb_contact.specs.declared.event.Event.{Event}
@@ -30,7 +30,7 @@ use Rattle.xb_samples.specs.declared.bits.Width.TheVariants as widths
 use Rattle.xb_samples.specs.declared.bits.Bits.{Bits}
 use Rattle.xb_samples.specs.Samples.{BitsState, are_of_two, bits_fault, bits_reading, bits_say, bits_state, masks_of, new_bits, rate_says, wires_say_bits}
 use Rattle.xb_samples.specs.Sounds.{SoundSays, begun_sound, high_of, samples_left, sound_begins, sound_fault, sound_reading, sound_state, unless, wires_of}
-use Rattle.xb_recording.specs.Says.{BitsSay, BytesSay, IsBegunBits, IsBegunGpiomon, IsBegunSound, IsBegunTable, IsBegunVcd, IsBegunWav, IsOfFormat, LinesSay, Says, SoundSaid, TableSays, Takes, TakesBytes, TakesText, WavSays, is_text, lines_in, lines_left, names_in, plain_lines, sound_comes_to, text_lines}
+use Rattle.xb_recording.specs.Says.{BitsSay, BytesSay, IsBegunBits, IsBegunGpiomon, IsBegunSound, IsBegunTable, IsBegunVcd, IsBegunWav, IsOfFormat, LinesSay, Says, SoundSaid, TableSays, TakesBytes, WavSays, lines_in, names_in, plain_lines, sound_comes_to, text_lines}
 use Rattle.xb_samples.proofs.EndLemmas.{new_sound_says}
 use Rattle.xb_samples.proofs.TurnLemmas.{fault_where, fault_whole}
 use Rattle.xb_samples.proofs.WaitLemmas.{same-after}
@@ -40,42 +40,6 @@ ok_is {A} {x} {y} e = ap (λ o. result_unwrap_or o x) e
 
 err_is : {A : Type 0} {x : A} {refusal : Refusal} → ◌≡◌ {A = Result A Refusal} (Err refusal) (Ok x) → ⊥
 err_is e = cc
-
--- samples have no lines, and a text no samples
-lines_none : (source : Source) (lines : List (List ℕ)) (said : List Event) → is_text source ≡ false → LinesSay source lines said
-lines_none (sources.Vcd vcd) lines said h = cc
-lines_none (sources.Columns table) lines said h = cc
-lines_none (sources.Gpiomon gpiomon) lines said h = cc
-lines_none (sources.Bits bits) lines said h = tt
-lines_none (sources.WavHead head) lines said h = tt
-lines_none (sources.Sound sound) lines said h = tt
-
-bytes_none :
-    (wanted : Wanted) (source : Source) (bytes : List ℕ) (said : List Event) → is_text source ≡ true
-    → BytesSay wanted source bytes said
-bytes_none wanted (sources.Vcd vcd) bytes said h = tt
-bytes_none wanted (sources.Columns table) bytes said h = tt
-bytes_none wanted (sources.Gpiomon gpiomon) bytes said h = tt
-bytes_none wanted (sources.Bits bits) bytes said h = cc
-bytes_none wanted (sources.WavHead head) bytes said h = cc
-bytes_none wanted (sources.Sound sound) bytes said h = cc
-
-pub takes_text :
-    (old new : Reader) (bytes : List ℕ) (said : List Event) → is_text old.source ≡ true → TakesText old new bytes said
-    → Takes old new bytes said
-takes_text old new bytes said h taken text later rest =
-    (taken text (Ok later) rest.0, bytes_none old.wanted.now old.source (bytes ++ text) (said ++ later) h)
-
-pub takes_bytes :
-    (old new : Reader) (bytes : List ℕ) (said : List Event) → is_text old.source ≡ false
-    → TakesBytes old new bytes said → Takes old new bytes said
-takes_bytes old new bytes said h taken text later rest =
-    (lines_none old.source (lines_left old (bytes ++ text)) (said ++ later) h, taken text later rest.1)
-
--- lines of which none is the first
-pub plain_lines-later : (lines : List (List ℕ)) → plain_lines false lines ≡ lines
-plain_lines-later [] = refl
-plain_lines-later (line ∷ rest) = refl
 
 -- the beginning of a table
 table_begins :

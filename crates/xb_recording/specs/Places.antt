@@ -22,10 +22,14 @@ lines_ended_by byte ended = if byte == 10 then one_more ended else ended
 abbrev pub line_number : Reader → ℕ
 line_number reader = one_more reader.lines
 
+-- the tick of the first samples of a sound
+abbrev pub first_tick : ℕ
+first_tick = 2 ^ 62
+
 -- the sample that comes next, counted from 1, where the samples have begun
 abbrev pub sample_number : Source → Option ℕ
 sample_number (sources.Bits bits) = Some (one_more (bits_state bits).count)
-sample_number (sources.Sound sound) = Some (one_more (sound_state sound).count)
+sample_number (sources.Sound sound) = Some (one_more ((sound_state sound).count - first_tick))
 sample_number (sources.Vcd vcd) = None
 sample_number (sources.Columns table) = None
 sample_number (sources.Gpiomon gpiomon) = None

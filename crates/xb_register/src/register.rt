@@ -1,19 +1,18 @@
 // The register stage.
 ghost use Rattle.std.specs.Prelude.{◌≡◌, ◌<◌, length};
-ghost use Rattle.xb_model.specs.Plans.{plan_len};
 ghost use Rattle.xb_model.specs.TwoOfFive.{digit_of_pattern};
 ghost use Rattle.std.specs.Option.{option_to_list};
 ghost use Rattle.xb_model.specs.OnLines.{all_on};
 ghost use Rattle.xb_register.specs.Laws.{GivesOutcomes, EachSeizureGivesAtMostOne, GivesNoMoreThanSeizures, GivesNoneBeforeASeizure};
 ghost use Rattle.xb_register.specs.Phases.{HasRoom};
-ghost use Rattle.xb_register.specs.Machine.{advance, listen, store, reaches, outcomes_by, phase_after, machine};
+ghost use Rattle.xb_register.specs.Machine.{advance, listen, store, outcomes_by, phase_after, machine};
 
 use crate::state::{Phase, RegisterState};
 use crate::step::Step;
 use crate::stored::StoredDigits;
 use std::marker::Model;
 use xb_model::{
-    Dialled, LineStage, NUMBER_DIGITS, On, Plan, Reason, Relays, Signal, plan_len, send,
+    Dialled, LineStage, NUMBER_DIGITS, On, Plan, Reason, Relays, Signal, is_reached, send,
 };
 
 /// The register stage: signals of each line in, what comes of each attempt out.
@@ -37,16 +36,6 @@ impl Model for Register {
     ghost view = { λ register. register.plan };
 }
 
-// Whether the digits are as many as their number has.
-fn is_reached(plan: Plan, digits: &StoredDigits) -> bool
-    ensures { result ≡ reaches (plan_len plan digits.now) (length digits.now) }
-{
-    match plan_len(plan, digits.read_back().digits()) {
-        Some(len) => len <= digits.len(),
-        None => false,
-    }
-}
-
 // Takes a pattern into the digits of an attempt.
 fn store(plan: Plan, mut digits: StoredDigits, pattern: Relays) -> Step
     requires { length digits < NUMBER_DIGITS }
@@ -57,7 +46,7 @@ fn store(plan: Plan, mut digits: StoredDigits, pattern: Relays) -> Step
         return Step::refuse(Reason::Mutilated, &digits, Phase::Done);
     }
     digits.push(pattern);
-    if is_reached(plan, &digits) {
+    if is_reached(plan, digits.read_back().digits()) {
         Step::give(Dialled::Number(digits.read_back()), Phase::Done)
     } else {
         Step::enter(Phase::Listening(digits))

@@ -23,19 +23,24 @@ use Rattle.xb_replay.proofs.Feeds.{feed_law-looked}
 use Rattle.xb_replay.proofs.LookSteps.{input-law, output-law, input-ring, output-ring, input-stage, output-stage}
 
 module _ (w : World) (k : WorldLaw w) where
-  -- the feed
-  pub world-feed : (feed : FeedPost) (pulse : StationPost Limits LoopRow (On Signal))
-      → IsRing feed.producer pulse.consumer → FeedLaw w.rows feed → InputLooked w.posts.pulse pulse
-      → WorldLaw (record w { posts = record w.posts { feed = feed; pulse = pulse } })
-  world-feed feed pulse ring law seen =
+  -- other posts in front of the deal
+  front : (feed : FeedPost) (pulse : StationPost Limits LoopRow (On Signal)) (register : StationPost Plan (On Signal) (On Dialled)) (translate : StationPost Table (On Dialled) (On Order))
+      → IsRing feed.producer pulse.consumer → IsRing pulse.producer register.consumer
+      → IsRing register.producer translate.consumer → IsRing translate.producer w.posts.deal.consumer
+      → KeepsImage row_line (pulse_machine w.table.limits) pulse → pulse.stage ≡ w.table.limits
+      → KeepsImage on_line_of (register_machine w.table.plan) register → register.stage ≡ w.table.plan
+      → KeepsImage on_line_of (translate_machine w.table.routes) translate → translate.stage ≡ w.table
+      → FeedLaw w.rows feed
+      → WorldLaw (record w { posts = record w.posts { feed = feed; pulse = pulse; register = register; translate = translate } })
+  front feed pulse register translate rows signals dialled orders pulses pulse_stage registers register_stage translates translate_stage law =
       let r = k.links in
       let l = k.stages in
       record {
         links = record {
-          rows = ring;
-          signals = input-ring w.posts.pulse pulse seen w.posts.register.consumer r.signals;
-          dialled = r.dialled;
-          orders = r.orders;
+          rows = rows;
+          signals = signals;
+          dialled = dialled;
+          orders = orders;
           outputs = r.outputs;
           inputs = r.inputs;
           dealt = r.dealt;
@@ -44,12 +49,12 @@ module _ (w : World) (k : WorldLaw w) where
         };
         stages = record {
           limits = l.limits;
-          pulse = input-law row_line (pulse_machine w.table.limits) w.posts.pulse pulse seen l.pulse;
-          pulse_stage = input-stage w.posts.pulse pulse seen ∙ l.pulse_stage;
-          register = l.register;
-          register_stage = l.register_stage;
-          translate = l.translate;
-          translate_stage = l.translate_stage;
+          pulse = pulses;
+          pulse_stage = pulse_stage;
+          register = registers;
+          register_stage = register_stage;
+          translate = translates;
+          translate_stage = translate_stage;
           deal = l.deal;
           senders = l.senders;
           gather = l.gather;
@@ -58,6 +63,18 @@ module _ (w : World) (k : WorldLaw w) where
         };
         feed = law;
       }
+
+  -- the feed
+  pub world-feed : (feed : FeedPost) (pulse : StationPost Limits LoopRow (On Signal))
+      → IsRing feed.producer pulse.consumer → FeedLaw w.rows feed → InputLooked w.posts.pulse pulse
+      → WorldLaw (record w { posts = record w.posts { feed = feed; pulse = pulse } })
+  world-feed feed pulse ring law seen =
+      let r = k.links in
+      let l = k.stages in
+      front feed pulse w.posts.register w.posts.translate ring
+      (input-ring w.posts.pulse pulse seen w.posts.register.consumer r.signals) r.dialled r.orders
+      (input-law row_line (pulse_machine w.table.limits) w.posts.pulse pulse seen l.pulse)
+      (input-stage w.posts.pulse pulse seen ∙ l.pulse_stage) l.register l.register_stage l.translate l.translate_stage law
 
   -- the pulse station
   pub world-pulse : (feed : FeedPost) (pulse : StationPost Limits LoopRow (On Signal)) (register : StationPost Plan (On Signal) (On Dialled))
@@ -69,34 +86,12 @@ module _ (w : World) (k : WorldLaw w) where
   world-pulse feed pulse register same sends rows signals stage law seen =
       let r = k.links in
       let l = k.stages in
-      record {
-        links = record {
-          rows = rows;
-          signals = signals;
-          dialled = input-ring w.posts.register register seen w.posts.translate.consumer r.dialled;
-          orders = r.orders;
-          outputs = r.outputs;
-          inputs = r.inputs;
-          dealt = r.dealt;
-          gathered = r.gathered;
-          marks = r.marks;
-        };
-        stages = record {
-          limits = l.limits;
-          pulse = subst (λ limits. KeepsImage row_line (pulse_machine limits) pulse) (stage ∙ l.pulse_stage) law;
-          pulse_stage = stage ∙ l.pulse_stage;
-          register = input-law on_line_of (register_machine w.table.plan) w.posts.register register seen l.register;
-          register_stage = input-stage w.posts.register register seen ∙ l.register_stage;
-          translate = l.translate;
-          translate_stage = l.translate_stage;
-          deal = l.deal;
-          senders = l.senders;
-          gather = l.gather;
-          tape = l.tape;
-          lost = l.lost;
-        };
-        feed = feed_law-looked w.rows w.posts.feed feed same sends k.feed;
-      }
+      front feed pulse register w.posts.translate rows signals
+      (input-ring w.posts.register register seen w.posts.translate.consumer r.dialled) r.orders
+      (subst (λ limits. KeepsImage row_line (pulse_machine limits) pulse) (stage ∙ l.pulse_stage) law) (stage ∙ l.pulse_stage)
+      (input-law on_line_of (register_machine w.table.plan) w.posts.register register seen l.register)
+      (input-stage w.posts.register register seen ∙ l.register_stage) l.translate l.translate_stage
+      (feed_law-looked w.rows w.posts.feed feed same sends k.feed)
 
   -- the register
   pub world-register : (pulse : StationPost Limits LoopRow (On Signal)) (register : StationPost Plan (On Signal) (On Dialled)) (translate : StationPost Table (On Dialled) (On Order))
@@ -108,34 +103,13 @@ module _ (w : World) (k : WorldLaw w) where
   world-register pulse register translate gives signals dialled stage law seen =
       let r = k.links in
       let l = k.stages in
-      record {
-        links = record {
-          rows = output-ring w.posts.pulse pulse gives w.posts.feed.producer r.rows;
-          signals = signals;
-          dialled = dialled;
-          orders = input-ring w.posts.translate translate seen w.posts.deal.consumer r.orders;
-          outputs = r.outputs;
-          inputs = r.inputs;
-          dealt = r.dealt;
-          gathered = r.gathered;
-          marks = r.marks;
-        };
-        stages = record {
-          limits = l.limits;
-          pulse = output-law row_line (pulse_machine w.table.limits) w.posts.pulse pulse gives l.pulse;
-          pulse_stage = output-stage w.posts.pulse pulse gives ∙ l.pulse_stage;
-          register = subst (λ plan. KeepsImage on_line_of (register_machine plan) register) (stage ∙ l.register_stage) law;
-          register_stage = stage ∙ l.register_stage;
-          translate = input-law on_line_of (translate_machine w.table.routes) w.posts.translate translate seen l.translate;
-          translate_stage = input-stage w.posts.translate translate seen ∙ l.translate_stage;
-          deal = l.deal;
-          senders = l.senders;
-          gather = l.gather;
-          tape = l.tape;
-          lost = l.lost;
-        };
-        feed = k.feed;
-      }
+      front w.posts.feed pulse register translate (output-ring w.posts.pulse pulse gives w.posts.feed.producer r.rows) signals dialled
+      (input-ring w.posts.translate translate seen w.posts.deal.consumer r.orders)
+      (output-law row_line (pulse_machine w.table.limits) w.posts.pulse pulse gives l.pulse)
+      (output-stage w.posts.pulse pulse gives ∙ l.pulse_stage)
+      (subst (λ plan. KeepsImage on_line_of (register_machine plan) register) (stage ∙ l.register_stage) law) (stage ∙ l.register_stage)
+      (input-law on_line_of (translate_machine w.table.routes) w.posts.translate translate seen l.translate)
+      (input-stage w.posts.translate translate seen ∙ l.translate_stage) k.feed
 
   -- the translation
   pub world-translate : (register : StationPost Plan (On Signal) (On Dialled)) (translate : StationPost Table (On Dialled) (On Order)) (deal : DealPost)

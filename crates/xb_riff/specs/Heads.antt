@@ -1,9 +1,10 @@
 -- The head of a WAV file (RIFF, WAVE): a list of chunks, the last of which are the samples.
-use Rattle.std.specs.Prelude.{ℕ, zero, suc, ◌≡◌, ◌+◌, ◌%◌, ◌<◌, ◌≤◌, min, List, [], ◌∷◌, ◌++◌, Bool, Option, Some, None, Result, Ok, Err, IfSome, codes, drop, length, nat_eq, nat_lt, take, ◌==◌, ◌&&◌, if◌then◌else◌, option_map, slice_index_or}
+use Rattle.std.specs.Prelude.{ℕ, zero, suc, ◌≡◌, ◌+◌, ◌*◌, ◌%◌, ◌<◌, ◌≤◌, min, List, [], ◌∷◌, ◌++◌, Bool, Option, Some, None, Result, Ok, Err, IfSome, codes, drop, length, nat_eq, nat_lt, take, ◌==◌, ◌&&◌, if◌then◌else◌, option_map, slice_index_or}
 use Rattle.std.specs.Int.{from_le_bytes, w16, w32}
 use Rattle.std.specs.List.{ends_with, starts_with}
 use Rattle.xb_riff.specs.declared.coding.Coding.{Coding}
 use Rattle.xb_riff.specs.declared.coding.Coding.TheVariants as coding
+use Rattle.xb_riff.specs.Codings.{width}
 use Rattle.xb_riff.specs.declared.head.After.{After}
 use Rattle.xb_riff.specs.declared.head.After.TheVariants as afters
 use Rattle.xb_riff.specs.declared.head.HeadFault.{HeadFault}
@@ -41,19 +42,25 @@ coding_in ((k, b, how) ∷ rest) kind bits = if (kind == k) && (bits == b) then 
 abbrev pub coding_of : ℕ → ℕ → Option Coding
 coding_of kind bits = coding_in codings kind bits
 
--- there are 1 to 8 channels
-abbrev pub format_by : Option Coding → ℕ → ℕ → ℕ → ℕ → Result WavFormat HeadFault
-format_by None kind bits channels rate = Err (fault.Coding kind bits)
-format_by (Some how) kind bits channels rate =
-    if nat_lt 0 channels && nat_lt channels 9
+-- there are 1 to 8 channels, and so many bytes are counted for the samples of all as they have
+abbrev pub counted_by : Coding → ℕ → ℕ → ℕ → Result WavFormat HeadFault
+counted_by how channels rate block =
+    if block == (channels * width how)
     then Ok (record { coding = how; channels = channels; rate = rate; length = None })
+    else Err (fault.Block block (channels * width how))
+
+abbrev pub format_by : Option Coding → ℕ → ℕ → ℕ → ℕ → ℕ → Result WavFormat HeadFault
+format_by None kind bits channels rate block = Err (fault.Coding kind bits)
+format_by (Some how) kind bits channels rate block =
+    if nat_lt 0 channels && nat_lt channels 9 then counted_by how channels rate block
     else Err (fault.Channels channels)
 
--- what a chunk `fmt ` says: format, channels, samples a second, and the bits of a sample
+-- what a chunk `fmt ` says: format, channels, samples a second, the bytes of a sample of each channel together, and the
+-- bits of a sample
 abbrev pub format_of : List ℕ → Result WavFormat HeadFault
 format_of chunk =
     format_by (coding_of (kind_of chunk) (short_at chunk 14)) (kind_of chunk) (short_at chunk 14) (short_at chunk 2)
-    (long_at chunk 4)
+    (long_at chunk 4) (short_at chunk 12)
 
 -- how many bytes the samples have: from 2,147,418,112 on it was not known when the head was written
 abbrev pub length_of : ℕ → Option ℕ

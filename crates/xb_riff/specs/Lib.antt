@@ -1,4 +1,5 @@
 pub mod Codings
+pub mod FaultTexts
 pub mod Floats
 pub mod Heads
 pub mod MuLawBytes

@@ -4,6 +4,7 @@ ghost use Rattle.xb_riff.specs.Heads.{FollowsPart, IsAfter, IsFormat, IsGathered
 
 use crate::coding::Coding;
 use arrayvec::ArrayVec;
+use std::fmt;
 use std::marker::Model;
 use thiserror::Error;
 
@@ -26,20 +27,46 @@ const MOST_FORMAT_BYTES: usize = 26;
 #[derive(Clone, Copy, Debug, PartialEq, Eq, Error)]
 pub enum HeadFault {
     /// It does not begin with RIFF, a length and WAVE.
-    #[error("its first 12 bytes are not those of a WAV file")]
     NotWav,
     /// The samples come before a chunk `fmt `, or that chunk has fewer than 16 bytes.
-    #[error("no chunk \"fmt \" says how the samples are written")]
     NoFormat,
     /// The samples are written by no `Coding`: the format's number, and the bits of a sample.
-    #[error("the chunk \"fmt \" has format {0} of {1} bits, and not 1 of 8, 16, 24 or 32, 3 of 32, or 6 or 7 of 8: sox IN.wav -e signed -b 16 OUT.wav")]
     Coding(u16, u16),
     /// There are not 1 to 8 channels.
-    #[error("the chunk \"fmt \" has {0} channels, and not 1 to 8: sox IN.wav OUT.wav remix 1")]
     Channels(u16),
+    /// The samples of all channels have other bytes than the format counts: those that it counts, and those that they have.
+    Block(u16, u16),
     /// The file ends before its samples.
-    #[error("no chunk \"data\" has samples")]
     NoData,
+}
+
+impl fmt::Display for HeadFault {
+    ghost use Rattle.std.specs.Prelude.{Some};
+    ghost use Rattle.xb_riff.specs.FaultTexts.{head_text};
+
+    ghost output = { λ fault. Some (head_text fault) };
+
+    fn fmt<W: fmt::Write>(&self, f: &mut fmt::Formatter<W>) -> fmt::Result {
+        match self {
+            HeadFault::NotWav => f.write_str("its first 12 bytes are not those of a WAV file"),
+            HeadFault::NoFormat => f.write_str(
+                "no chunk \"fmt \" says how the samples are written",
+            ),
+            HeadFault::Coding(format, bits) => write!(
+                f,
+                "the chunk \"fmt \" has format {format} of {bits} bits, and not 1 of 8, 16, 24 or 32, 3 of 32, or 6 or 7 of 8: sox IN.wav -e signed -b 16 OUT.wav"
+            ),
+            HeadFault::Channels(channels) => write!(
+                f,
+                "the chunk \"fmt \" has {channels} channels, and not 1 to 8: sox IN.wav OUT.wav remix 1"
+            ),
+            HeadFault::Block(counted, had) => write!(
+                f,
+                "the chunk \"fmt \" counts {counted} bytes for the samples of all channels, which have {had}"
+            ),
+            HeadFault::NoData => f.write_str("no chunk \"data\" has samples"),
+        }
+    }
 }
 
 // Where a head stands.
@@ -136,16 +163,19 @@ fn format_of(chunk: &[u8]) -> Result<WavFormat, HeadFault>
     let channels = short_at(chunk, 2);
     let rate = long_at(chunk, 4);
     let coding = coding_of(kind, bits).ok_or(HeadFault::Coding(kind, bits))?;
-    if 0 < channels && channels < MOST_CHANNELS + 1 {
-        Ok(WavFormat {
-            coding,
-            channels: channels as u8,
-            rate,
-            length: None,
-        })
-    } else {
-        Err(HeadFault::Channels(channels))
+    if channels == 0 || channels > MOST_CHANNELS {
+        return Err(HeadFault::Channels(channels));
     }
+    let block = channels * coding.width() as u16;
+    if short_at(chunk, 12) != block {
+        return Err(HeadFault::Block(short_at(chunk, 12), block));
+    }
+    Ok(WavFormat {
+        coding,
+        channels: channels as u8,
+        rate,
+        length: None,
+    })
 }
 
 // The bytes of the samples, where a head says them: a program that writes to a pipe says 2 GB and more.

@@ -7,25 +7,13 @@ use Rattle.xb_model.specs.declared.plan.Plan.TheVariants.{Seven, Ten}
 use Rattle.xb_model.specs.Plans.{is_area_code, is_service_code, length_after, length_after_three, length_of_others, plan_len}
 use Rattle.xb_model.specs.Numbers.{fronts, has_length, is_complete, shortest_complete}
 use Rattle.std.proofs.lemmas.List.{length-append, length-take-le, take-append-drop}
-use Rattle.xb_calls.proofs.CompleteNumbers.{complete_is_shortest}
+use Rattle.xb_calls.proofs.CompleteNumbers.{complete_is_shortest, find-map, plan_len-front}
 
 some_is : {A : Type 0} {x y : A} → Some x ≡ Some y → x ≡ y
 some_is {A} {x} {y} e = ap (λ o. unwrap_or o x) e
 
 none_is : {A : Type 0} {x : A} → None ≡ Some x → ⊥
 none_is e = cc
-
--- finding among images
-find-map : {A B : Type 0} (test : B → Bool) (f : A → B) (xs : List A)
-    → find test (map f xs) ≡ option_map f (find (λ x. test (f x)) xs)
-find-map test f [] = refl
-find-map test f (x ∷ xs) = at (find-map test f xs) (test (f x)) refl
-  where
-    at : find test (map f xs) ≡ option_map f (find (λ y. test (f y)) xs)
-        → (passes : Bool) → test (f x) ≡ passes
-        → find test (map f (x ∷ xs)) ≡ option_map f (find (λ y. test (f y)) (x ∷ xs))
-    at later true e = rw e refl
-    at later false e = rw e later
 
 -- a front that is found is found where more stands behind
 put-first : (d : ℕ) (found more : Option (List ℕ)) (front : List ℕ)
@@ -63,24 +51,6 @@ find-none test (d ∷ digits) fails =
     (find-map test (λ g. d ∷ g) (fronts digits)
     ∙ ap (option_map (λ g. d ∷ g)) (find-none (λ g. test (d ∷ g)) digits
     (λ front rest e. fails (d ∷ front) rest (ap (λ more. d ∷ more) e))))
-
--- what the first digits tell of the length, more digits tell too
-length_after-front : (plan : Plan) (a : ℕ) (front rest : List ℕ)
-    → (length_after plan a front ≡ None) ⊎ (length_after plan a front ≡ length_after plan a (front ++ rest))
-length_after-front plan a [] rest = inl refl
-length_after-front plan a (b ∷ []) rest = inl refl
-length_after-front plan a (b ∷ c ∷ front) rest = inr refl
-
-plan_len-front : (plan : Plan) (front rest : List ℕ)
-    → (plan_len plan front ≡ None) ⊎ (plan_len plan front ≡ plan_len plan (front ++ rest))
-plan_len-front plan [] rest = inl refl
-plan_len-front plan (a ∷ front) rest = at (a == 0) refl
-  where
-    at : (operator : Bool) → (a == 0) ≡ operator
-        → (plan_len plan (a ∷ front) ≡ None) ⊎ (plan_len plan (a ∷ front)
-        ≡ plan_len plan ((a ∷ front) ++ rest))
-    at true e = inr (rw e refl)
-    at false e = rw e (length_after-front plan a front rest)
 
 -- a number has three digits at least, if it does not begin with 0, and ten at most
 record IsLength (n : ℕ) : Type 0 where
@@ -160,15 +130,3 @@ completes_none plan digits n is short =
     at front rest e (inr same) =
         let count : length front + length rest ≡ length digits = sym (length-append front rest) ∙ ap length e in
         rw (same ∙ ap (plan_len plan) e ∙ is) (ne_eqb n (length front) (λ w. omega (arith, count, short, w)))
-
--- and so are digits that do not tell the length
-pub tells_none : (plan : Plan) (digits : List ℕ) → plan_len plan digits ≡ None
-    → shortest_complete plan digits ≡ None
-tells_none plan digits is =
-    find-none (is_complete plan) digits (λ front rest e. at front rest e (plan_len-front plan front rest))
-  where
-    at : (front rest : List ℕ) → front ++ rest ≡ digits
-        → (plan_len plan front ≡ None) ⊎ (plan_len plan front ≡ plan_len plan (front ++ rest))
-        → is_complete plan front ≡ false
-    at front rest e (inl none) = rw none refl
-    at front rest e (inr same) = rw (same ∙ ap (plan_len plan) e ∙ is) refl

@@ -1,3 +1,4 @@
+pub mod FaultTexts
 pub mod NumberTexts
 pub mod TextSteps
 pub mod Answers

@@ -6,7 +6,7 @@ use Rattle.xb_calls.specs.Lists.{is_grouping, is_passed_over, text_lines}
 use Rattle.xb_calls.specs.WrongBytes.{first_wrong}
 use Rattle.xb_route.specs.declared.fault.NumberFault.{NumberFault}
 use Rattle.xb_route.specs.declared.fault.NumberFault.TheVariants as fault
-use Rattle.xb_letters.specs.Letters.{digit_of_character}
+use Rattle.xb_model.specs.Letters.{digit_of_character}
 
 -- a character that neither dials a digit, nor groups digits
 abbrev pub is_wrong : ℕ → Bool

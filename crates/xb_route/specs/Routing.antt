@@ -11,7 +11,7 @@ use Rattle.xb_text.specs.Reading.{IsLongerThan}
 use Rattle.xb_text.specs.Writing.{AppendsBeginning}
 use Rattle.xb_route.specs.declared.fault.RoutingFault.{RoutingFault}
 use Rattle.xb_route.specs.declared.fault.RoutingFault.TheVariants as fault
-use Rattle.xb_route.specs.declared.reading.TheConstants.{MOST_TEXT_BYTES}
+use Rattle.xb_route.specs.declared.number_texts.TheConstants.{MOST_TEXT_BYTES}
 use Rattle.xb_route.specs.declared.words.Request.{Request}
 use Rattle.xb_route.specs.Answers.{answer_to}
 use Rattle.xb_route.specs.Lines.{answer_line}

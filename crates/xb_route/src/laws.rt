@@ -1,11 +1,11 @@
 //! What the definitions give: each law is the contract of a function that does nothing.
-ghost use Rattle.xb_route.specs.Constants.{MostTextBytesIsRight};
+ghost use Rattle.xb_route.specs.Constants.{AreConstants};
 ghost use Rattle.xb_route.specs.Lines.{PagesWriteBodies};
 ghost use Rattle.xb_route.specs.Worked.{LinesOfNumbers, NumbersOfTexts, ObjectsOfNumbers};
 
-/// The most bytes of a text of numbers, as it is.
+/// The most bytes of a text of numbers, and how many digits a code may have, each as it is.
 pub fn constants()
-    ensures { MostTextBytesIsRight }
+    ensures { AreConstants }
 {}
 
 /// The numbers that some texts write.

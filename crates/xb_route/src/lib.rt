@@ -18,20 +18,19 @@
 #![tactic(auto)]
 
 mod answer;
+mod answer_line;
+mod answer_object;
 mod fault;
 pub mod laws;
-mod lines;
-mod numbers;
-mod objects;
+mod number;
+mod number_texts;
 mod program;
-mod reading;
 mod routing;
 mod words;
 
 pub use answer::{Answer, answer_to};
 pub use fault::{NumberFault, RoutingFault};
-pub use numbers::number_of_text;
-pub use program::attend;
-pub use reading::MOST_TEXT_BYTES;
+pub use number::number_of_text;
+pub use number_texts::MOST_TEXT_BYTES;
 pub use routing::route;
 pub use words::{PROGRAM, Request};

@@ -4,10 +4,10 @@ ghost use Rattle.xb_route.specs.Routing.{AreGiven, AreNumbers, Delivers, IsFault
 ghost use Rattle.xb_route.specs.TextSteps.{digits_of_numbers};
 
 use crate::answer::answer_to;
+use crate::answer_line::answer_line;
+use crate::answer_object::object_line;
 use crate::fault::{NumberFault, RoutingFault};
-use crate::lines::answer_line;
-use crate::objects::object_line;
-use crate::reading::{MOST_TEXT_BYTES, numbers_of_text, numbers_of_words};
+use crate::number_texts::{MOST_TEXT_BYTES, numbers_of_text, numbers_of_words};
 use crate::words::Request;
 use std::alloc::{AllocError, Global};
 use std::io::{Read, Write};

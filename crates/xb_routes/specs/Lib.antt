@@ -1,3 +1,4 @@
+pub mod FaultTexts
 pub mod Table
 pub mod Codes
 pub mod Keys

@@ -2,8 +2,8 @@
 ghost use Rattle.std.specs.Prelude.{◌≡◌, IfSome, Some};
 ghost use Rattle.xb_routes.specs.LimitFaults.{limit_fault, limit_number};
 
+use std::fmt;
 use thiserror::Error;
-use xb_model::RowFault;
 
 /// The rule that limits break, the first in this order.
 #[derive(Clone, Copy, Debug, PartialEq, Eq)]
@@ -73,43 +73,55 @@ impl LimitFault {
 #[derive(Clone, Copy, Debug, PartialEq, Eq, Error)]
 pub enum RouteFault {
     /// The text is not UTF-8, or not TOML.
-    #[error("not TOML")]
     NotToml,
     /// `plan` is neither 7 nor 10.
-    #[error("plan is neither 7 nor 10")]
     Plan,
     /// The limits break the rule of this number (`LimitFault`).
-    #[error("limit {0} is wrong")]
     Limits(u32),
     /// The array of routes has more than 1,000.
-    #[error("more than 1000 routes")]
     TooMany,
     /// The route is not a table, lacks `code` or `trunk`, or has another kind of value at one of
     /// its four keys. With the number 0: `route` is not an array.
-    #[error("route {0} has a wrong shape")]
     Shape(u32),
     /// The code is not `0`, nor three digits NNX or N11, where N is 2 to 9 and X is 0 to 9. In plan
     /// Ten also three digits N0X and N1X are codes, and six digits, N0X or N1X but not N11, and then NNX.
-    #[error("route {0} has a wrong code")]
     Code(u32),
     /// The trunk group is not 0 to 9999.
-    #[error("route {0} has a wrong trunk")]
     Trunk(u32),
     /// `delete` is not 0 to the length of numbers that begin with the code.
-    #[error("route {0} has a wrong delete")]
     Delete(u32),
     /// `prefix` is not 0 to 8 ASCII digits.
-    #[error("route {0} has a wrong prefix")]
     Prefix(u32),
     /// The route deletes all digits of its numbers and puts none before them.
-    #[error("route {0} keys no digit")]
     NothingToKey(u32),
     /// An earlier route has the same code.
-    #[error("route {0} repeats a code")]
     Twice(u32),
     /// Memory ran out.
-    #[error("{}", RowFault::NoMemory)]
     NoMemory,
+}
+
+impl fmt::Display for RouteFault {
+    ghost use Rattle.std.specs.Prelude.{Some};
+    ghost use Rattle.xb_routes.specs.FaultTexts.{route_text};
+
+    ghost output = { λ fault. Some (route_text fault) };
+
+    fn fmt<W: fmt::Write>(&self, f: &mut fmt::Formatter<W>) -> fmt::Result {
+        match self {
+            RouteFault::NotToml => f.write_str("not TOML"),
+            RouteFault::Plan => f.write_str("plan is neither 7 nor 10"),
+            RouteFault::Limits(number) => write!(f, "limit {number} is wrong"),
+            RouteFault::TooMany => f.write_str("more than 1000 routes"),
+            RouteFault::Shape(number) => write!(f, "route {number} has a wrong shape"),
+            RouteFault::Code(number) => write!(f, "route {number} has a wrong code"),
+            RouteFault::Trunk(number) => write!(f, "route {number} has a wrong trunk"),
+            RouteFault::Delete(number) => write!(f, "route {number} has a wrong delete"),
+            RouteFault::Prefix(number) => write!(f, "route {number} has a wrong prefix"),
+            RouteFault::NothingToKey(number) => write!(f, "route {number} keys no digit"),
+            RouteFault::Twice(number) => write!(f, "route {number} repeats a code"),
+            RouteFault::NoMemory => f.write_str("out of memory"),
+        }
+    }
 }
 
 impl From<LimitFault> for RouteFault {

@@ -51,8 +51,8 @@ heard-against how keyed bytes report out page result known a b is none returned 
 pub are-differences : (how : Input) (keyed : List KeyedEntry) (bytes : Option (List ℕ)) (text : List ℕ) (a b : Option (List ℕ))
     → HearsBytes how None (on_page (fresh_against keyed)) bytes (Ok tt) (outputs (Some []) (Some text) a b)
     → IsDifferences how bytes keyed text a b
-are-differences how keyed None text a b (samples, wrote) = (heard_entries (keys_of_sound samples), tt, wrote.page_whole)
-are-differences how keyed (Some bytes) text a b (sound, is, (lacks, wrote)) =
+are-differences how keyed None text a b (samples, styles, wrote) = (heard_entries (keys_of_sound samples), tt, wrote.page_whole)
+are-differences how keyed (Some bytes) text a b (sound, is, (lacks, (styles, wrote))) =
     (heard_entries (keys_of_sound sound.samples), (sound, is, lacks, wrote.told_whole, refl), wrote.page_whole)
 
 -- why it is not heard, as of a page that is not written
@@ -65,8 +65,8 @@ module _ (clock : Clock) (how : Input) (page a b : Option (List ℕ)) where
       × Hears None (Some sound) (on_page (fresh_against keyed)) (Err f) (outputs (Some []) page a b))
       → ((sound : Sound) × (sound_by how bytes ≡ Ok sound)
       × HearsSound (timing_by None clock) (written.Page 0 0) sound (Err f) (outputs (Some []) (Some []) a b))
-  began-paged f bytes keyed (sound, is, (of, began)) =
-      (sound, is, (of, record { page_begun = none-written (Some []) _; told_begun = began.told_begun }))
+  began-paged f bytes keyed (sound, is, (of, (styles, began))) =
+      (sound, is, (of, (styles, record { page_begun = none-written (Some []) _; told_begun = began.told_begun })))
 
   not-paged : (keyed : List KeyedEntry) (bytes : Option (List ℕ)) (f : RxFault)
       → HearsBytes how None (on_page (fresh_against keyed)) bytes (Err f) (outputs (Some []) page a b)

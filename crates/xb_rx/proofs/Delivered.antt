@@ -3,6 +3,7 @@ use Rattle.std.proofs.Common.{◌≡◌, ℕ, List, Option, Some, None, Result, 
 use Rattle.std.specs.Io.KnownBytes.{Appends}
 use Rattle.std.proofs.KnownBytes.{Keeps-refl}
 use Rattle.xb_measured.specs.Receivers.{keys_of_sound}
+use Rattle.xb_svg.specs.Drawings.{drawing_text}
 use Rattle.xb_text.specs.Writing.{AppendsBeginning}
 use Rattle.xb_rx.specs.Pages.{page_after}
 use Rattle.xb_rx.proofs.PartSteps.{fresh-picture}
@@ -29,21 +30,27 @@ use Rattle.xb_rx.specs.Starts.{Opens}
 -- before the first key all is still to be written
 hears-written : (timing : Timing) (w : Written) (sound : Sound) (result : Result (Unit {0}) RxFault) (outs : Outputs)
     → Hears timing.since (Some sound) (fresh_report timing w) result outs → HearsSound timing w sound result outs
-hears-written timing (written.Page line trunk) sound (Ok u) outs (lacks, wrote) = (
+hears-written timing (written.Page line trunk) sound (Ok u) outs (lacks, (styles, wrote)) = (
   lacks,
-  record {
-    page_whole = subst (λ numbers. Appends outs.page_old outs.page_new (page_after line trunk 0 numbers))
-        (numbers-placed (keys_of_sound sound.samples)) wrote.page_whole;
-    told_whole = wrote.told_whole;
-  },
+  (
+    styles,
+    record {
+      page_whole = subst (λ numbers. Appends outs.page_old outs.page_new (page_after line trunk 0 numbers))
+          (numbers-placed (keys_of_sound sound.samples)) wrote.page_whole;
+      told_whole = wrote.told_whole;
+    },
+  ),
 )
-hears-written timing (written.Page line trunk) sound (Err f) outs (of, began) = (
+hears-written timing (written.Page line trunk) sound (Err f) outs (of, (styles, began)) = (
   of,
-  record {
-    page_begun = subst (λ numbers. AppendsBeginning outs.page_old outs.page_new (page_after line trunk 0 numbers))
-        (numbers-placed (keys_of_sound sound.samples)) began.page_begun;
-    told_begun = began.told_begun;
-  },
+  (
+    styles,
+    record {
+      page_begun = subst (λ numbers. AppendsBeginning outs.page_old outs.page_new (page_after line trunk 0 numbers))
+          (numbers-placed (keys_of_sound sound.samples)) began.page_begun;
+      told_begun = began.told_begun;
+    },
+  ),
 )
 hears-written timing written.Keys sound (Ok u) outs heard = heard
 hears-written timing written.Keys sound (Err f) outs heard = heard
@@ -51,21 +58,27 @@ hears-written timing written.Objects sound (Ok u) outs heard = heard
 hears-written timing written.Objects sound (Err f) outs heard = heard
 hears-written timing written.Sections sound (Ok u) outs heard = heard
 hears-written timing written.Sections sound (Err f) outs heard = heard
-hears-written timing written.Picture sound (Ok u) outs (lacks, wrote) = (
+hears-written timing written.Picture sound (Ok u) outs (lacks, (styles, wrote)) = (
   lacks,
-  record {
-    page_whole = subst (Appends outs.page_old outs.page_new)
-        (fresh-picture (shown_of (keys_of_sound sound.samples))) wrote.page_whole;
-    told_whole = wrote.told_whole;
-  },
+  (
+    styles,
+    record {
+      page_whole = subst (λ words. Appends outs.page_old outs.page_new (drawing_text (styles 0) words))
+          (fresh-picture (shown_of (keys_of_sound sound.samples))) wrote.page_whole;
+      told_whole = wrote.told_whole;
+    },
+  ),
 )
-hears-written timing written.Picture sound (Err f) outs (of, began) = (
+hears-written timing written.Picture sound (Err f) outs (of, (styles, began)) = (
   of,
-  record {
-    page_begun = subst (AppendsBeginning outs.page_old outs.page_new)
-        (fresh-picture (shown_of (keys_of_sound sound.samples))) began.page_begun;
-    told_begun = began.told_begun;
-  },
+  (
+    styles,
+    record {
+      page_begun = subst (λ words. AppendsBeginning outs.page_old outs.page_new (drawing_text (styles 0) words))
+          (fresh-picture (shown_of (keys_of_sound sound.samples))) began.page_begun;
+      told_begun = began.told_begun;
+    },
+  ),
 )
 
 delivered-sound : (timing : Timing) (written : Written) (how : Input) (bytes : List ℕ) (result : Result (Unit {0}) RxFault) (outs : Outputs)
@@ -112,7 +125,7 @@ module _ (how : Input) (since : Option Timestamp) (report : Reported) where
   heard-some : (all : Option Sound) (result : Result (Unit {0}) RxFault) (outs : Outputs) → Hears since all report result outs
       → Hears since None report result outs
   heard-some None result outs heard = heard
-  heard-some (Some sound) (Ok u) outs heard = (sound.samples, heard.1)
+  heard-some (Some sound) (Ok u) outs (lacks, (styles, wrote)) = (sound.samples, styles, wrote)
   heard-some (Some sound) (Err f) outs heard = tt
 
   pub listened : (old mid : Option (List ℕ)) (start : Start) (result : Result (Unit {0}) RxFault) (outs : Outputs)

@@ -11,9 +11,9 @@ pub mod PlacedKeyings
 pub mod WrittenText
 pub mod Listings
 pub mod KeySteps
-pub mod LastSteps
 pub mod ObjectSteps
 pub mod PartSteps
+pub mod LastSteps
 pub mod SoFar
 pub mod Listened
 pub mod PagedKeys

@@ -4,6 +4,7 @@ use Rattle.std.specs.Prelude.{IfErr, OnOk}
 use Rattle.std.specs.Io.KnownBytes.{Appends}
 use Rattle.jiff_core.specs.declared.timestamp.Timestamp.{Timestamp}
 use Rattle.std.proofs.KnownBytes.{Appends-nil}
+use Rattle.xb_svg.specs.Drawings.{Looks}
 use Rattle.xb_text.specs.Writing.{AppendsBeginning}
 use Rattle.xb_text.proofs.Beginnings.{AppendsBeginning-first}
 use Rattle.xb_measured.specs.declared.heard.Heard.{Heard}
@@ -16,6 +17,7 @@ use Rattle.xb_rx.specs.declared.timed.ReportFault.{ReportFault}
 use Rattle.xb_rx.specs.Faults.{IsLateFault, reported_page}
 use Rattle.xb_rx.specs.Pages.{Ends, Writes}
 use Rattle.xb_rx.specs.Reports.{listing_rest}
+use Rattle.xb_rx.specs.Styled.{WritesBy}
 use Rattle.xb_rx.proofs.WrittenText.{none-written}
 
 module _ (last : Option Heard) (key : Heard) (line : List ℕ) (a b : Option (List ℕ)) where
@@ -38,6 +40,27 @@ pub no-key : {F : Type 0} (before after : List Heard → List ℕ) (r : Result (
 no-key {F = F} before after r f a is =
     subst (λ (s : Result (Unit {0}) F). Writes before after s a a) (sym is) (λ later. none-written a (before later))
 
+-- the same of texts with pictures, and where no key comes
+pub no-key-by : {F : Type 0} (before : List Heard → (ℕ → Looks) → List ℕ) (keys : List Heard)
+    (after : List Heard → (ℕ → Looks) → List ℕ) (r : Result (Unit {0}) F) (f : F) (a : Option (List ℕ))
+    → r ≡ Err f → WritesBy before keys after r a a
+no-key-by {F = F} before keys after r f a is =
+    subst (λ (s : Result (Unit {0}) F). WritesBy before keys after s a a) (sym is)
+    (record { by = λ styles. styles; begun = λ later styles. none-written a (before (keys ++ later) styles) })
+
+pub no-part : (F : Type 0) (text : List Heard → (ℕ → Looks) → List ℕ) (a : Option (List ℕ))
+    → WritesBy {F = F} text [] text (Ok tt) a a
+no-part F text a = record { by = λ styles. styles; bytes = []; wrote = Appends-nil a; rest = λ later styles. refl }
+
+-- a text without pictures has any looks
+pub any-looks : {F : Type 0} (before : List Heard → List ℕ) (keys : List Heard) (after : List Heard → List ℕ)
+    (r : Result (Unit {0}) F) (a b : Option (List ℕ)) → Writes (λ later. before (keys ++ later)) after r a b
+    → WritesBy (λ later styles. before later) keys (λ later styles. after later) r a b
+any-looks before keys after (Ok u) a b (bytes, wrote, is) =
+    record { by = λ styles. styles; bytes = bytes; wrote = wrote; rest = λ later styles. is later }
+any-looks before keys after (Err f) a b begun =
+    record { by = λ styles. styles; begun = λ later styles. begun later }
+
 -- a fault of a page is one of what is written
 module _ (r : Result (Unit {0}) PageFault) (s : Result (Unit {0}) ReportFault) (same : s ≡ reported_page r) where
   pub page-writes : (before after : List Heard → List ℕ) (a b : Option (List ℕ)) → Writes before after r a b
@@ -46,6 +69,16 @@ module _ (r : Result (Unit {0}) PageFault) (s : Result (Unit {0}) ReportFault) (
       subst (λ (t : Result (Unit {0}) ReportFault). Writes before after t a b) (sym same) (by r wrote)
     where
       by : (r : Result (Unit {0}) PageFault) → Writes before after r a b → Writes before after (reported_page r) a b
+      by (Ok u) wrote = wrote
+      by (Err f) wrote = wrote
+
+  pub page-writes-by : (before : List Heard → (ℕ → Looks) → List ℕ) (keys : List Heard)
+      (after : List Heard → (ℕ → Looks) → List ℕ) (a b : Option (List ℕ)) → WritesBy before keys after r a b
+      → WritesBy before keys after s a b
+  page-writes-by before keys after a b wrote =
+      subst (λ (t : Result (Unit {0}) ReportFault). WritesBy before keys after t a b) (sym same) (by r wrote)
+    where
+      by : (r : Result (Unit {0}) PageFault) → WritesBy before keys after r a b → WritesBy before keys after (reported_page r) a b
       by (Ok u) wrote = wrote
       by (Err f) wrote = wrote
 

@@ -3,6 +3,7 @@ use Rattle.std.proofs.Common.{◌≡◌, ◌∙◌, ℕ, List, [], ◌∷◌, �
 use Rattle.std.specs.Io.KnownBytes.{Appends}
 use Rattle.std.proofs.KnownBytes.{Appends-nil, Appends-trans}
 use Rattle.jiff_core.specs.declared.timestamp.Timestamp.{Timestamp}
+use Rattle.xb_svg.specs.Drawings.{Looks}
 use Rattle.xb_text.specs.Writing.{AppendsBeginning}
 use Rattle.xb_text.proofs.Beginnings.{AppendsBeginning-first, AppendsBeginning-second}
 use Rattle.xb_measured.specs.declared.heard.Heard.{Heard}
@@ -20,62 +21,75 @@ use Rattle.xb_rx.specs.Faults.{IsLateFault, of_page, of_report, of_stream}
 use Rattle.xb_rx.specs.Listeners.{HasListened, quiet_of, quiet_text}
 use Rattle.xb_rx.specs.Pages.{Writes}
 use Rattle.xb_rx.specs.Reports.{Reported, report_rest, told_rest}
+use Rattle.xb_rx.specs.Styled.{Begins, EndsBy, Leaves, WritesBy}
 use Rattle.xb_rx.specs.Hearing.{Hears, IsFaultOf, Outputs, outputs, told_rest_of}
+use Rattle.xb_rx.proofs.Listings.{any-looks}
+use Rattle.xb_rx.proofs.PartSteps.{plain-styles}
 use Rattle.xb_rx.proofs.WrittenText.{all-written}
 use Rattle.xb_rx.specs.Samples.{Sound, sound_with}
 use Rattle.xb_rx.specs.Streams.{GivesSample}
 
--- what was written of keys, and of later ones
-module _ (text : Reported → List Heard → List ℕ) (first : Reported) where
+-- what was written of keys, and of later ones, by some looks
+module _ (text : Reported → List Heard → (ℕ → Looks) → List ℕ) (first : Reported) where
   -- of the first keys this much was written
   abbrev pub Has : Reported → List Heard → Option (List ℕ) → Option (List ℕ) → Type 0
-  Has page keys start out = Writes {F = ReportFault} (λ later. text first (keys ++ later)) (text page) (Ok tt) start out
+  Has page keys start out = Leaves (text first) keys (text page) start out
 
   pub has-none : (out : Option (List ℕ)) → Has first [] out out
-  has-none out = ([], Appends-nil out, λ later. refl)
+  has-none out = record { by = λ styles. styles; bytes = []; wrote = Appends-nil out; rest = λ later styles. refl }
 
   pub has-more : (page new : Reported) (keys more : List Heard) (start out next : Option (List ℕ))
-      → Has page keys start out → Writes {F = ReportFault} (λ later. text page (more ++ later)) (text new) (Ok tt) out next
-      → Has new (keys ++ more) start next
-  has-more page new keys more start out next (a, wrote, is) (b, also, goes) = (
-    a ++ b,
-    Appends-trans start out next a b wrote also,
-    λ later. ap (text first) (append_assoc keys more later)
-        ∙ is (more ++ later)
-        ∙ ap (λ bytes. a ++ bytes) (goes later)
-        ∙ sym (append_assoc a b (text new later)),
-  )
+      → Has page keys start out → Leaves (text page) more (text new) out next → Has new (keys ++ more) start next
+  has-more page new keys more start out next one two = record {
+    by = λ styles. one.by (two.by styles);
+    bytes = one.bytes ++ two.bytes;
+    wrote = Appends-trans start out next one.bytes two.bytes one.wrote two.wrote;
+    rest = λ later styles.
+        ap (λ (ks : List Heard). text first ks (one.by (two.by styles))) (append_assoc keys more later)
+        ∙ one.rest (more ++ later) (two.by styles)
+        ∙ ap (λ (bytes : List ℕ). one.bytes ++ bytes) (two.rest later styles)
+        ∙ sym (append_assoc one.bytes two.bytes (text new later styles));
+  }
 
   -- it is the beginning of all that is to be written
   pub has-begun : (page : Reported) (keys later : List Heard) (start out : Option (List ℕ)) → Has page keys start out
-      → AppendsBeginning start out (text first (keys ++ later))
-  has-begun page keys later start out (a, wrote, is) =
-      subst (AppendsBeginning start out) (sym (is later))
-      (AppendsBeginning-first start out a (text page later) (whole a wrote))
-    where
-      whole : (a : List ℕ) → Appends start out a → AppendsBeginning start out a
-      whole a wrote = subst (λ bytes. AppendsBeginning start out bytes) (append-nil a)
-          (AppendsBeginning-second start out out a [] wrote (0, Appends-nil out))
+      → (styles : ℕ → Looks) × AppendsBeginning start out (text first (keys ++ later) styles)
+  has-begun page keys later start out one = (
+    one.by plain-styles,
+    subst (AppendsBeginning start out) (sym (one.rest later plain-styles))
+        (AppendsBeginning-first start out one.bytes (text page later plain-styles) (all-written start out one.bytes one.wrote)),
+  )
 
-  pub has-fault : (page new : Reported) (keys more later : List Heard) (f : ReportFault) (start out next : Option (List ℕ))
-      → Has page keys start out → Writes (λ later. text page (more ++ later)) (text new) (Err f) out next
-      → AppendsBeginning start next (text first ((keys ++ more) ++ later))
-  has-fault page new keys more later f start out next (a, wrote, is) begun =
-      subst (AppendsBeginning start next)
-      (sym (ap (text first) (append_assoc keys more later) ∙ is (more ++ later)))
-      (AppendsBeginning-second start out next a (text page (more ++ later)) wrote (begun later))
+  pub has-fault : (page : Reported) (keys more later : List Heard) (start out next : Option (List ℕ))
+      → Has page keys start out → Begins (text page) more out next
+      → (styles : ℕ → Looks) × AppendsBeginning start next (text first ((keys ++ more) ++ later) styles)
+  has-fault page keys more later start out next one two =
+      let styles = two.by plain-styles in (
+        one.by styles,
+        subst (AppendsBeginning start next)
+            (sym (ap (λ (ks : List Heard). text first ks (one.by styles)) (append_assoc keys more later)
+            ∙ one.rest (more ++ later) styles))
+            (AppendsBeginning-second start out next one.bytes (text page (more ++ later) styles) one.wrote
+            (two.begun later plain-styles)),
+      )
 
   -- with the rest it is all of it
-  pub has-last : (page : Reported) (keys more : List Heard) (start out next : Option (List ℕ)) → Has page keys start out
-      → Appends out next (text page more) → Appends start next (text first (keys ++ more))
-  has-last page keys more start out next (a, wrote, is) rest =
-      subst (Appends start next) (sym (is more)) (Appends-trans start out next a (text page more) wrote rest)
+  pub has-last : (page : Reported) (keys more : List Heard) (start out next : Option (List ℕ)) (one : Has page keys start out)
+      (styles : ℕ → Looks) → Appends out next (text page more styles) → Appends start next (text first (keys ++ more) (one.by styles))
+  has-last page keys more start out next one styles rest =
+      subst (Appends start next) (sym (one.rest more styles))
+      (Appends-trans start out next one.bytes (text page more styles) one.wrote rest)
 
-  pub has-last-begun : (page : Reported) (keys more : List Heard) (start out next : Option (List ℕ)) → Has page keys start out
-      → AppendsBeginning out next (text page more) → AppendsBeginning start next (text first (keys ++ more))
-  has-last-begun page keys more start out next (a, wrote, is) rest =
-      subst (AppendsBeginning start next) (sym (is more))
-      (AppendsBeginning-second start out next a (text page more) wrote rest)
+  pub has-last-begun : (page : Reported) (keys more : List Heard) (start out next : Option (List ℕ)) (one : Has page keys start out)
+      (styles : ℕ → Looks) → AppendsBeginning out next (text page more styles)
+      → AppendsBeginning start next (text first (keys ++ more) (one.by styles))
+  has-last-begun page keys more start out next one styles rest =
+      subst (AppendsBeginning start next) (sym (one.rest more styles))
+      (AppendsBeginning-second start out next one.bytes (text page more styles) one.wrote rest)
+
+-- what is told has no looks
+abbrev pub told_by : Reported → List Heard → (ℕ → Looks) → List ℕ
+told_by report = λ later styles. told_rest report later
 
 -- a fault of a page says nothing of the sound
 page-fault : (since : Option Timestamp) (sound : Sound) (f : PageFault) → IsFaultOf since sound (of_page f)
@@ -101,7 +115,7 @@ pub record IsSoFar (first page : Reported) (listener : Listener) (all left : Opt
   pub is_left : IfSome all (λ sound. IsLeft sound samples left)
   pub listened : HasListened listener samples keys
   pub page_has : Has report_rest first page keys outs.page_old outs.page_new
-  pub told_has : Has told_rest first page keys outs.told_old outs.told_new
+  pub told_has : Has told_by first page keys outs.told_old outs.told_new
 
 all-left : (all : Option Sound) → IfSome all (λ sound. IsLeft sound [] all)
 all-left None = tt
@@ -115,7 +129,7 @@ so_far-start first listener all a b listened = record {
   is_left = all-left all;
   listened = listened;
   page_has = has-none report_rest first a;
-  told_has = has-none told_rest first b;
+  told_has = has-none told_by first b;
 }
 
 -- a sample less is left
@@ -154,7 +168,7 @@ module _ (since : Option Timestamp) (first page : Reported) (listener : Listener
       → GivesSample now (Ok (Some x)) left
       → ((samples : List ℤ) (keys : List Heard) → HasListened listener samples keys
       → HasListened after (samples ++ x ∷ []) (keys ++ listed key))
-      → Writes {F = ReportFault} (λ later. report_rest page (listed key ++ later)) (report_rest new) (Ok tt) b next
+      → WritesBy {F = ReportFault} (report_rest page) (listed key) (report_rest new) (Ok tt) b next
       → Writes {F = ReportFault} (λ later. told_rest page (listed key ++ later)) (told_rest new) (Ok tt) d also
       → IsSoFar first new after all left (outputs a next c also)
   so_far-more new after x key all now left next also so gives takes wrote told = record {
@@ -163,7 +177,8 @@ module _ (since : Option Timestamp) (first page : Reported) (listener : Listener
     is_left = left-more so.samples x all now left so.is_left gives;
     listened = takes so.samples so.keys so.listened;
     page_has = has-more report_rest first page new so.keys (listed key) a b next so.page_has wrote;
-    told_has = has-more told_rest first page new so.keys (listed key) c d also so.told_has told;
+    told_has = has-more told_by first page new so.keys (listed key) c d also so.told_has
+        (any-looks {F = ReportFault} (told_rest page) (listed key) (told_rest new) (Ok tt) d also told);
   }
 
   -- the key that it ended was not written
@@ -172,7 +187,7 @@ module _ (since : Option Timestamp) (first page : Reported) (listener : Listener
       → GivesSample now (Ok (Some x)) left
       → ((samples : List ℤ) (keys : List Heard) → HasListened listener samples keys
       → HasListened after (samples ++ x ∷ []) (keys ++ listed key))
-      → Writes (λ later. report_rest page (listed key ++ later)) (report_rest new) (Err f) b next
+      → WritesBy (report_rest page) (listed key) (report_rest new) (Err f) b next
       → Writes (λ later. told_rest page (listed key ++ later)) (told_rest new) (Err f) d also
       → IsLateFault since f → Hears since all first (Err (of_report f)) (outputs a next c also)
   so_far-fault new after x key f None now left next also so gives takes wrote told late = tt
@@ -186,14 +201,19 @@ module _ (since : Option Timestamp) (first page : Reported) (listener : Listener
       ∙ sym (append_assoc so.samples (x ∷ []) left.samples) in
       let more = keys-begin (so.samples ++ x ∷ []) left.samples in
       let keys : keys_of_sound sound.samples ≡ (so.keys ++ listed key) ++ more.0 =
-      ap keys_of_sound samples ∙ more.1 ∙ ap (λ ks. ks ++ more.0) (sym taken.received.given) in (
+      ap keys_of_sound samples ∙ more.1 ∙ ap (λ ks. ks ++ more.0) (sym taken.received.given) in
+      let begun = has-fault report_rest first page so.keys (listed key) more.0 a b next so.page_has wrote in
+      let said = has-fault told_by first page so.keys (listed key) more.0 c d also so.told_has
+      (any-looks (told_rest page) (listed key) (told_rest new) (Err f) d also told) in (
         report-fault since sound f late,
-        record {
-          page_begun = subst (λ ks. AppendsBeginning a next (report_rest first ks)) (sym keys)
-              (has-fault report_rest first page new so.keys (listed key) more.0 f a b next so.page_has wrote);
-          told_begun = told-begun first sound.samples c also (subst (λ ks. AppendsBeginning c also (told_rest first ks)) (sym keys)
-              (has-fault told_rest first page new so.keys (listed key) more.0 f c d also so.told_has told));
-        },
+        (
+          begun.0,
+          record {
+            page_begun = subst (λ ks. AppendsBeginning a next (report_rest first ks begun.0)) (sym keys) begun.1;
+            told_begun = told-begun first sound.samples c also
+                (subst (λ ks. AppendsBeginning c also (told_rest first ks)) (sym keys) said.1);
+          },
+        ),
       )
 
   -- the source gives no more because of a fault
@@ -204,14 +224,17 @@ module _ (since : Option Timestamp) (first page : Reported) (listener : Listener
   so_far-stop f (Some sound) (Some here) left so gives =
       let more = keys-begin so.samples here.samples in
       let keys : keys_of_sound sound.samples ≡ so.keys ++ more.0 =
-      ap (λ (s : Sound). keys_of_sound s.samples) so.is_left ∙ more.1 ∙ ap (λ ks. ks ++ more.0) (sym so.listened.received.given) in (
+      ap (λ (s : Sound). keys_of_sound s.samples) so.is_left ∙ more.1 ∙ ap (λ ks. ks ++ more.0) (sym so.listened.received.given) in
+      let begun = has-begun report_rest first page so.keys more.0 a b so.page_has in (
         at f gives,
-        record {
-          page_begun = subst (λ ks. AppendsBeginning a b (report_rest first ks)) (sym keys)
-              (has-begun report_rest first page so.keys more.0 a b so.page_has);
-          told_begun = told-begun first sound.samples c d (subst (λ ks. AppendsBeginning c d (told_rest first ks)) (sym keys)
-              (has-begun told_rest first page so.keys more.0 c d so.told_has));
-        },
+        (
+          begun.0,
+          record {
+            page_begun = subst (λ ks. AppendsBeginning a b (report_rest first ks begun.0)) (sym keys) begun.1;
+            told_begun = told-begun first sound.samples c d (subst (λ ks. AppendsBeginning c d (told_rest first ks)) (sym keys)
+                (has-begun told_by first page so.keys more.0 c d so.told_has).1);
+          },
+        ),
       )
     where
       at : (f : StreamFault) → GivesSample (Some here) (Err f) left → IsFaultOf since sound (of_stream f)
@@ -237,18 +260,19 @@ module _ (since : Option Timestamp) (first page : Reported) (listener : Listener
       → IsSoFar first page listener all now (outputs a b c d) → GivesSample now (Ok None) left
       → ((samples : List ℤ) (keys : List Heard) → HasListened listener samples keys
       → keys ++ listed key ≡ keys_of_sound samples)
-      → Appends b next (report_rest page (listed key)) → Appends d also (told_rest page (listed key))
+      → EndsBy {F = ReportFault} (report_rest page (listed key)) (Ok tt) b next → Appends d also (told_rest page (listed key))
       → ((samples : List ℤ) (keys : List Heard) → HasListened listener samples keys
       → Appends also last (quiet_text samples (keys ++ listed key)))
       → Hears since all first (Ok tt) (outputs a next c last)
   so_far-end key None now left next also last so gives finishes wrote told quiet =
       let keys = finishes so.samples so.keys so.listened in (
         so.samples,
+        so.page_has.by wrote.0,
         record {
-          page_whole = subst (λ ks. Appends a next (report_rest first ks)) keys
-              (has-last report_rest first page so.keys (listed key) a b next so.page_has wrote);
+          page_whole = subst (λ ks. Appends a next (report_rest first ks (so.page_has.by wrote.0))) keys
+              (has-last report_rest first page so.keys (listed key) a b next so.page_has wrote.0 wrote.1);
           told_whole = subst (λ ks. Appends c last (told_rest first ks ++ quiet_text so.samples ks)) keys
-              (Appends-trans c also last _ _ (has-last told_rest first page so.keys (listed key) c d also so.told_has told)
+              (Appends-trans c also last _ _ (has-last told_by first page so.keys (listed key) c d also so.told_has plain-styles told)
               (quiet so.samples so.keys so.listened));
         },
       )
@@ -256,16 +280,19 @@ module _ (since : Option Timestamp) (first page : Reported) (listener : Listener
   so_far-end key (Some sound) (Some here) left next also last so gives finishes wrote told quiet =
       let keys = all-keys key sound here left so gives finishes in (
         ap (λ (s : Sound). s.lacking) so.is_left ∙ ap (λ (s : Sound). s.lacking) gives,
-        record {
-          page_whole = subst (λ ks. Appends a next (report_rest first ks)) keys
-              (has-last report_rest first page so.keys (listed key) a b next so.page_has wrote);
-          told_whole = subst (λ t. Appends c last (told_rest first (keys_of_sound sound.samples) ++ t))
-              (quiet-is key sound here left _ so gives finishes refl)
-              (Appends-trans c also last _ _
-              (subst (λ ks. Appends c also (told_rest first ks)) keys
-              (has-last told_rest first page so.keys (listed key) c d also so.told_has told))
-              (quiet so.samples so.keys so.listened));
-        },
+        (
+          so.page_has.by wrote.0,
+          record {
+            page_whole = subst (λ ks. Appends a next (report_rest first ks (so.page_has.by wrote.0))) keys
+                (has-last report_rest first page so.keys (listed key) a b next so.page_has wrote.0 wrote.1);
+            told_whole = subst (λ t. Appends c last (told_rest first (keys_of_sound sound.samples) ++ t))
+                (quiet-is key sound here left _ so gives finishes refl)
+                (Appends-trans c also last _ _
+                (subst (λ ks. Appends c also (told_rest first ks)) keys
+                (has-last told_by first page so.keys (listed key) c d also so.told_has plain-styles told))
+                (quiet so.samples so.keys so.listened));
+          },
+        ),
       )
 
   -- or the beginning of that was
@@ -273,7 +300,7 @@ module _ (since : Option Timestamp) (first page : Reported) (listener : Listener
       → IsSoFar first page listener all now (outputs a b c d) → GivesSample now (Ok None) left
       → ((samples : List ℤ) (keys : List Heard) → HasListened listener samples keys
       → keys ++ listed key ≡ keys_of_sound samples)
-      → Appends b next (report_rest page (listed key)) → Appends d also (told_rest page (listed key))
+      → EndsBy {F = ReportFault} (report_rest page (listed key)) (Ok tt) b next → Appends d also (told_rest page (listed key))
       → ((samples : List ℤ) (keys : List Heard) → HasListened listener samples keys
       → AppendsBeginning also last (quiet_text samples (keys ++ listed key)))
       → Hears since all first (Err (of_page f)) (outputs a next c last)
@@ -282,16 +309,19 @@ module _ (since : Option Timestamp) (first page : Reported) (listener : Listener
   so_far-end-quiet key f (Some sound) (Some here) left next also last so gives finishes wrote told quiet =
       let keys = all-keys key sound here left so gives finishes in (
         page-fault since sound f,
-        record {
-          page_begun = all-written a next _ (subst (λ ks. Appends a next (report_rest first ks)) keys
-              (has-last report_rest first page so.keys (listed key) a b next so.page_has wrote));
-          told_begun = subst (λ t. AppendsBeginning c last (told_rest first (keys_of_sound sound.samples) ++ t))
-              (quiet-is key sound here left _ so gives finishes refl)
-              (AppendsBeginning-second c also last _ _
-              (subst (λ ks. Appends c also (told_rest first ks)) keys
-              (has-last told_rest first page so.keys (listed key) c d also so.told_has told))
-              (quiet so.samples so.keys so.listened));
-        },
+        (
+          so.page_has.by wrote.0,
+          record {
+            page_begun = all-written a next _ (subst (λ ks. Appends a next (report_rest first ks (so.page_has.by wrote.0))) keys
+                (has-last report_rest first page so.keys (listed key) a b next so.page_has wrote.0 wrote.1));
+            told_begun = subst (λ t. AppendsBeginning c last (told_rest first (keys_of_sound sound.samples) ++ t))
+                (quiet-is key sound here left _ so gives finishes refl)
+                (AppendsBeginning-second c also last _ _
+                (subst (λ ks. Appends c also (told_rest first ks)) keys
+                (has-last told_by first page so.keys (listed key) c d also so.told_has plain-styles told))
+                (quiet so.samples so.keys so.listened));
+          },
+        ),
       )
 
   -- or the beginning of the rest was
@@ -299,17 +329,20 @@ module _ (since : Option Timestamp) (first page : Reported) (listener : Listener
       → IsSoFar first page listener all now (outputs a b c d) → GivesSample now (Ok None) left
       → ((samples : List ℤ) (keys : List Heard) → HasListened listener samples keys
       → keys ++ listed key ≡ keys_of_sound samples)
-      → AppendsBeginning b next (report_rest page (listed key)) → AppendsBeginning d also (told_rest page (listed key))
+      → EndsBy (report_rest page (listed key)) (Err f) b next → AppendsBeginning d also (told_rest page (listed key))
       → IsLateFault since f → Hears since all first (Err (of_report f)) (outputs a next c also)
   so_far-end-fault key f None now left next also so gives finishes wrote told late = tt
   so_far-end-fault key f (Some sound) None left next also so gives finishes wrote told late = absurd so.is_left
   so_far-end-fault key f (Some sound) (Some here) left next also so gives finishes wrote told late =
       let keys = all-keys key sound here left so gives finishes in (
         report-fault since sound f late,
-        record {
-          page_begun = subst (λ ks. AppendsBeginning a next (report_rest first ks)) keys
-              (has-last-begun report_rest first page so.keys (listed key) a b next so.page_has wrote);
-          told_begun = told-begun first sound.samples c also (subst (λ ks. AppendsBeginning c also (told_rest first ks)) keys
-              (has-last-begun told_rest first page so.keys (listed key) c d also so.told_has told));
-        },
+        (
+          so.page_has.by wrote.0,
+          record {
+            page_begun = subst (λ ks. AppendsBeginning a next (report_rest first ks (so.page_has.by wrote.0))) keys
+                (has-last-begun report_rest first page so.keys (listed key) a b next so.page_has wrote.0 wrote.1);
+            told_begun = told-begun first sound.samples c also (subst (λ ks. AppendsBeginning c also (told_rest first ks)) keys
+                (has-last-begun told_by first page so.keys (listed key) c d also so.told_has plain-styles told));
+          },
+        ),
       )

@@ -16,6 +16,7 @@ use Rattle.xb_measured.specs.declared.heard.Heard.{Heard}
 use Rattle.xb_measured.specs.Receivers.{keys_of_sound}
 use Rattle.xb_rx.specs.declared.comparing.CompareProgramFault.{CompareProgramFault}
 use Rattle.xb_rx.specs.declared.comparing.CompareProgramFault.TheVariants as fault
+use Rattle.xb_rx.specs.declared.fault.RxFault.TheVariants as sound_fault
 use Rattle.xb_rx.specs.declared.request.Input.{Input}
 use Rattle.xb_rx.specs.declared.request.Request.{Request}
 use Rattle.xb_rx.specs.declared.request.Written.TheVariants as written
@@ -45,11 +46,13 @@ IsFileFault file f = ⊥
 abbrev pub page_request : Input → Request
 page_request how = record { written = written.Page 0 0; since = None; input = how }
 
--- why a sound is not heard to its end
+-- why a sound is not heard to its end; for the differences, which are held, memory may run out where a page could not be
+-- written
 abbrev pub IsSoundFault : Input → Option (List ℕ) → CompareProgramFault → Option (List ℕ) → Option (List ℕ) → Type 0
 IsSoundFault how bytes (fault.Sound f) old new =
     (page : Option (List ℕ)) × DeliversTimed (page_request how) bytes (Err f) (outputs (Some []) page old new)
-IsSoundFault how bytes fault.NoMemory old new = Unit {0}
+IsSoundFault how bytes fault.NoMemory old new =
+    (page : Option (List ℕ)) × DeliversTimed (page_request how) bytes (Err sound_fault.Write) (outputs (Some []) page old new)
 IsSoundFault how bytes f old new = ⊥
 
 -- this holds of the differences of what was keyed and what is heard

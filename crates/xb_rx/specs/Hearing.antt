@@ -3,6 +3,7 @@ use Rattle.std.specs.Prelude.{ℕ, ◌≡◌, ◌⊎◌, ◌<◌, List, ◌++◌
 use Rattle.std.specs.Io.KnownBytes.{Appends, Keeps}
 use Rattle.jiff_core.specs.declared.timestamp.Timestamp.{Timestamp}
 use Rattle.xb_clock.specs.Clocks.{Clock, IsClockSince, IsLateAt}
+use Rattle.xb_svg.specs.Drawings.{Looks}
 use Rattle.xb_text.specs.Writing.{AppendsBeginning}
 use Rattle.xb_measured.specs.Receivers.{keys_of_sound}
 use Rattle.xb_rx.specs.declared.fault.RxFault.{RxFault}
@@ -55,17 +56,20 @@ told_rest_of report samples = told_rest report (keys_of_sound samples) ++ quiet_
 abbrev pub told_text_of : Written → List ℤ → List ℕ
 told_text_of written samples = told_text written (keys_of_sound samples) ++ quiet_of samples
 
--- what was written and told of a sound, after what there is so far: of one that is not known, that of some samples
+-- what was written, by some looks, and told of a sound, after what there is so far: of one that is not known, that of some samples
 abbrev pub Hears : Option Timestamp → Option Sound → Reported → Result (Unit {0}) RxFault → Outputs → Type 0
 Hears since None report (Ok u) outs =
-    (samples : List ℤ) × Wrote outs (report_rest report (keys_of_sound samples)) (told_rest_of report samples)
+    (samples : List ℤ) × (styles : ℕ → Looks)
+    × Wrote outs (report_rest report (keys_of_sound samples) styles) (told_rest_of report samples)
 Hears since None report (Err f) outs = Unit {0}
 Hears since (Some sound) report (Ok u) outs =
     (sound.lacking ≡ 0)
-    × Wrote outs (report_rest report (keys_of_sound sound.samples)) (told_rest_of report sound.samples)
+    × ((styles : ℕ → Looks)
+    × Wrote outs (report_rest report (keys_of_sound sound.samples) styles) (told_rest_of report sound.samples))
 Hears since (Some sound) report (Err f) outs =
     IsFaultOf since sound f
-    × Began outs (report_rest report (keys_of_sound sound.samples)) (told_rest_of report sound.samples)
+    × ((styles : ℕ → Looks)
+    × Began outs (report_rest report (keys_of_sound sound.samples) styles) (told_rest_of report sound.samples))
 
 -- samples alone are written in some form
 abbrev pub HasForm : Input → Type 0
@@ -90,10 +94,12 @@ sound_by how bytes = sound_after (start_by how bytes)
 abbrev pub HearsSound : Timing → Written → Sound → Result (Unit {0}) RxFault → Outputs → Type 0
 HearsSound timing written sound (Ok u) outs =
     (sound.lacking ≡ 0)
-    × Wrote outs (written_text timing written (keys_of_sound sound.samples)) (told_text_of written sound.samples)
+    × ((styles : ℕ → Looks)
+    × Wrote outs (written_text timing written (keys_of_sound sound.samples) styles) (told_text_of written sound.samples))
 HearsSound timing written sound (Err f) outs =
     IsFaultOf timing.since sound f
-    × Began outs (written_text timing written (keys_of_sound sound.samples)) (told_text_of written sound.samples)
+    × ((styles : ℕ → Looks)
+    × Began outs (written_text timing written (keys_of_sound sound.samples) styles) (told_text_of written sound.samples))
 
 pub record WroteNothing (outs : Outputs) : Type 0 where
   pub page_kept : Keeps outs.page_old outs.page_new

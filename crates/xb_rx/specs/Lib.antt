@@ -1,4 +1,5 @@
 pub mod Constants
+pub mod FaultTexts
 pub mod Samples
 pub mod Streams
 pub mod Starts
@@ -9,6 +10,7 @@ pub mod Placed
 pub mod Pages
 pub mod Timed
 pub mod Objects
+pub mod Styled
 pub mod Shown
 pub mod Listeners
 pub mod Reports

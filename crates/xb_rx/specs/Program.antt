@@ -15,6 +15,7 @@ use Rattle.xb_rx.specs.declared.request.Request.{Request}
 use Rattle.xb_rx.specs.Comparing.{Compares}
 use Rattle.xb_rx.specs.Hearing.{DeliversTimed, outputs}
 use Rattle.xb_rx.specs.Options.{Asks, AsksNothing, asked_request}
+use Rattle.xb_rx.specs.FaultTexts.{difference_text, rx_text}
 
 -- what was asked for was done: the page of the sound was written, or its keys, or no difference was found
 abbrev pub IsDone : Bytes → Request → Option (Bor Text) → Streams → Streams → Type 0
@@ -24,19 +25,20 @@ IsDone bytes request (Some name) old new =
     Compares (bytes name.now) request.input old.input (Ok tt) (outputs old.output new.output old.errors new.errors)
 
 -- there was a fault, before whose line this was told
-abbrev pub HadFault : Bytes → Request → Option (Bor Text) → Streams → Streams → Option (List ℕ) → Type 0
-HadFault bytes request None old new told =
+abbrev pub HadFault : Text → Bytes → Request → Option (Bor Text) → Streams → Streams → Option (List ℕ) → Type 0
+HadFault program bytes request None old new told =
     (fault : RxFault) × DeliversTimed request old.input (Err fault) (outputs old.output new.output old.errors told)
-HadFault bytes request (Some name) old new told =
+    × Tells program (Some (rx_text fault)) told new.errors
+HadFault program bytes request (Some name) old new told =
     (fault : CompareProgramFault)
     × Compares (bytes name.now) request.input old.input (Err fault) (outputs old.output new.output old.errors told)
+    × Tells program (difference_text fault) told new.errors
 
 -- there was a fault, and a line says so, after those of keys that stand in no keying
 pub record HasFault (request : Request) (against : Option (Bor Text)) (program : Program) (bytes : Bytes)
     (old new : Streams) : Type 0 where
   pub told : Option (List ℕ)
-  pub had : HadFault bytes request against old new told
-  pub line : Tells program.name.now None told new.errors
+  pub had : HadFault program.name.now bytes request against old new told
 
 -- what the words ask for, what is read, and what is done
 abbrev pub by_rx : Rules Asked

@@ -10,19 +10,20 @@ use Rattle.xb_rx.specs.declared.request.Written.{Written}
 use Rattle.xb_rx.specs.declared.request.Written.TheVariants as written
 use Rattle.xb_rx.specs.declared.parts.Sheet.TheVariants as sheet
 use Rattle.xb_shown.specs.Pictures.{nothing_drawn}
+use Rattle.xb_svg.specs.Drawings.{Looks}
 use Rattle.xb_rx.specs.Begun.{IsBegun}
 use Rattle.xb_rx.specs.Objects.{Objected, fresh_objects, object_lines, objected, objects_rest}
 use Rattle.xb_rx.specs.Shown.{Shown, fresh_parts, html_of, parts_rest, shown, svg_of}
 use Rattle.xb_rx.specs.Timed.{Timing}
 use Rattle.xb_rx.specs.Pages.{Paged, fresh_page, page_of, page_rest, page_told, paged, told_of}
 
--- what is written of a sound with these keys
-abbrev pub written_text : Timing → Written → List Heard → List ℕ
-written_text timing (written.Page line trunk) keys = page_of line trunk keys
-written_text timing written.Keys keys = text_lines None keys
-written_text timing written.Objects keys = object_lines timing keys
-written_text timing written.Sections keys = html_of keys
-written_text timing written.Picture keys = svg_of keys
+-- what is written of a sound with these keys, by the looks of its pictures
+abbrev pub written_text : Timing → Written → List Heard → (ℕ → Looks) → List ℕ
+written_text timing (written.Page line trunk) keys styles = page_of line trunk keys
+written_text timing written.Keys keys styles = text_lines None keys
+written_text timing written.Objects keys styles = object_lines timing keys
+written_text timing written.Sections keys styles = html_of keys styles
+written_text timing written.Picture keys styles = svg_of keys styles
 
 -- and what is told of what is doubtful of them, and of those that stand in no keying, where it is its page
 abbrev pub told_text : Written → List Heard → List ℕ
@@ -57,11 +58,11 @@ fresh_report timing written.Picture = by_part (fresh_parts (sheet.Picture nothin
 abbrev pub listing_rest : Listing → List Heard → List ℕ
 listing_rest listing later = text_lines listing.last later
 
-abbrev pub report_rest : Reported → List Heard → List ℕ
-report_rest (on_page page) later = page_rest page later
-report_rest (by_key listing) later = listing_rest listing later
-report_rest (by_object timing objects) later = objects_rest timing objects later
-report_rest (by_part parts) later = parts_rest parts later
+abbrev pub report_rest : Reported → List Heard → (ℕ → Looks) → List ℕ
+report_rest (on_page page) = λ later styles. page_rest page later
+report_rest (by_key listing) = λ later styles. listing_rest listing later
+report_rest (by_object timing objects) = λ later styles. objects_rest timing objects later
+report_rest (by_part parts) = λ later styles. parts_rest parts later styles
 
 abbrev pub told_rest : Reported → List Heard → List ℕ
 told_rest (on_page page) later = page_told page later

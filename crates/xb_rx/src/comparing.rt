@@ -11,6 +11,7 @@ use crate::receiving::listen;
 use crate::report::Report;
 use crate::request::Input;
 use std::alloc::{AllocError, Global};
+use std::fmt;
 use std::io::{self, Read, Write};
 use thiserror::Error;
 use xb_command::{Files, InOneLine};
@@ -22,23 +23,38 @@ use xb_text::write_whole;
 #[derive(Debug, Drop, Error)]
 pub enum CompareProgramFault<'a> {
     /// The file of the page, of this name, could not be read.
-    #[error("the page could not be read: {}: {}", InOneLine(.0), .1)]
     File(&'a str, io::Error),
     /// It has no page.
-    #[error("the page that was keyed: {0}")]
     Keyed(CompareFault),
     /// The sound is not heard to its end.
-    #[error("{0}")]
     Sound(RxFault),
     /// Memory ran out.
-    #[error("out of memory")]
     NoMemory,
     /// A write or the flush failed, or a write took no byte.
-    #[error("the differences could not be written")]
     Write,
     /// What was keyed is not what is heard.
-    #[error("what was keyed is not what is heard")]
     Differ,
+}
+
+impl<'a> fmt::Display for CompareProgramFault<'a> {
+    ghost use Rattle.xb_rx.specs.FaultTexts.{difference_text};
+
+    ghost output = { difference_text };
+
+    fn fmt<W: fmt::Write>(&self, f: &mut fmt::Formatter<W>) -> fmt::Result {
+        match self {
+            CompareProgramFault::File(name, error) => write!(
+                f,
+                "the page could not be read: {}: {error}",
+                InOneLine(name)
+            ),
+            CompareProgramFault::Keyed(fault) => write!(f, "the page that was keyed: {fault}"),
+            CompareProgramFault::Sound(fault) => write!(f, "{fault}"),
+            CompareProgramFault::NoMemory => f.write_str("out of memory"),
+            CompareProgramFault::Write => f.write_str("the differences could not be written"),
+            CompareProgramFault::Differ => f.write_str("what was keyed is not what is heard"),
+        }
+    }
 }
 
 impl<'a> From<AllocError> for CompareProgramFault<'a> {

@@ -2,6 +2,7 @@
 use crate::page::PageFault;
 use crate::timed::ReportFault;
 use crate::{OpenFault, StreamFault, WavFault};
+use std::fmt;
 use thiserror::Error;
 use xb_clock::LAST_TIME;
 
@@ -9,28 +10,46 @@ use xb_clock::LAST_TIME;
 #[derive(Clone, Copy, Debug, PartialEq, Eq, Error)]
 pub enum RxFault {
     /// A read of the sound failed, an interrupted one too.
-    #[error("the sound could not be read")]
     Read,
     /// It is no WAV file whose samples can be heard.
-    #[error("the sound is no WAV file that can be heard: {0}")]
     Wav(WavFault),
     /// The file ends, and so many samples of 8,000 a second were to come.
-    #[error("the sound is cut off: {0} samples of 8000 a second are missing at its end")]
     Cut(u64),
     /// Memory ran out.
-    #[error("out of memory")]
     NoMemory,
     /// A write or the flush failed, or a write took no byte. The beginning of the page or of the lines was written.
-    #[error("what was heard could not be written")]
     Write,
     /// The time of day so many ms after the first sample is past the last that there is,
     /// 9999-12-30T22:00:00.999999999Z. Nothing was written of the key or the entry that begins or ends then.
-    #[error("the time {} ms after the first sample is past {}", .0, LAST_TIME)]
     Late(u64),
     /// A line about what was heard could not be told of: a key that is in no keying, what is doubtful of an
     /// entry, or how loud a sound without a key is.
-    #[error("a line about what was heard could not be told of")]
     Tell,
+}
+
+impl fmt::Display for RxFault {
+    ghost use Rattle.std.specs.Prelude.{Some};
+    ghost use Rattle.xb_rx.specs.FaultTexts.{rx_text};
+
+    ghost output = { λ fault. Some (rx_text fault) };
+
+    fn fmt<W: fmt::Write>(&self, f: &mut fmt::Formatter<W>) -> fmt::Result {
+        match self {
+            RxFault::Read => f.write_str("the sound could not be read"),
+            RxFault::Wav(fault) => write!(f, "the sound is no WAV file that can be heard: {fault}"),
+            RxFault::Cut(missing) => write!(
+                f,
+                "the sound is cut off: {missing} samples of 8000 a second are missing at its end"
+            ),
+            RxFault::NoMemory => f.write_str("out of memory"),
+            RxFault::Write => f.write_str("what was heard could not be written"),
+            RxFault::Late(ms) => write!(
+                f,
+                "the time {ms} ms after the first sample is past {LAST_TIME}"
+            ),
+            RxFault::Tell => f.write_str("a line about what was heard could not be told of"),
+        }
+    }
 }
 
 impl From<PageFault> for RxFault {

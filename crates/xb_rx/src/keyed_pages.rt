@@ -4,6 +4,7 @@ ghost use Rattle.xb_rx.specs.KeyedPages.{IsFaultOf, IsKeyed};
 
 use crate::keyed::{Keyed, keyed_entries};
 use std::alloc::{AllocError, Global};
+use std::fmt;
 use thiserror::Error;
 use xb_page::{MOST_PAGE_BYTES, PageFault, page_entries};
 
@@ -11,14 +12,26 @@ use xb_page::{MOST_PAGE_BYTES, PageFault, page_entries};
 #[derive(Clone, Copy, Debug, PartialEq, Eq, Error)]
 pub enum CompareFault {
     /// It is no page.
-    #[error("{0}")]
     Page(PageFault),
     /// It has more than 67,108,864 bytes.
-    #[error("it is longer than 67108864 bytes")]
     TooLong,
     /// Memory ran out.
-    #[error("out of memory")]
     NoMemory,
+}
+
+impl fmt::Display for CompareFault {
+    ghost use Rattle.std.specs.Prelude.{Some};
+    ghost use Rattle.xb_rx.specs.FaultTexts.{compare_text};
+
+    ghost output = { λ fault. Some (compare_text fault) };
+
+    fn fmt<W: fmt::Write>(&self, f: &mut fmt::Formatter<W>) -> fmt::Result {
+        match self {
+            CompareFault::Page(fault) => write!(f, "{fault}"),
+            CompareFault::TooLong => f.write_str("it is longer than 67108864 bytes"),
+            CompareFault::NoMemory => f.write_str("out of memory"),
+        }
+    }
 }
 
 impl From<AllocError> for CompareFault {

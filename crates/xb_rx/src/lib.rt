@@ -81,7 +81,6 @@ pub use differing::differences;
 pub use fault::RxFault;
 pub use keyed::{Keyed, keyed_entries};
 pub use keyed_pages::{CompareFault, keyed_of_page};
-pub use program::attend;
 pub use receiving::receive;
 pub use request::{Asked, Input, Request, Written};
 pub use source::{Source, StreamFault};

@@ -1,7 +1,6 @@
 // The keyings and the keys in none, as they end, on a page in HTML or in a picture.
-ghost use Rattle.std.specs.Prelude.{◌≡◌, ◌++◌, IfOk, List, OnOk, string_bytes};
-ghost use Rattle.xb_shown.specs.Pictures.{Part};
-ghost use Rattle.xb_rx.specs.Shown.{last_of, loose_parts, sheet_rest};
+ghost use Rattle.std.specs.Prelude.{◌≡◌, [], IfOk, OnOk, string_bytes};
+ghost use Rattle.xb_rx.specs.Shown.{Shows, last_of, loose_parts};
 
 use crate::begun::{Step, step_of};
 use crate::page::PageFault;
@@ -9,7 +8,7 @@ use std::alloc::{AllocError, Global};
 use std::io::Write;
 use std::slice;
 use xb_measured::{Heard, NamedKey};
-use xb_shown::{Picture, Sections, Title};
+use xb_shown::{Part, Picture, Sections, Title};
 use xb_text::write_whole;
 
 /// What parts of keys are shown on.
@@ -22,35 +21,28 @@ pub(crate) enum Sheet {
 }
 
 impl Sheet {
-    ghost use Rattle.std.specs.Prelude.{◌≡◌, ◌++◌, ◌∷◌, [], List, OnOk, string_bytes};
-    ghost use Rattle.xb_shown.specs.Pictures.{Part, part_of};
-    ghost use Rattle.xb_rx.specs.Shown.{sheet_rest};
+    ghost use Rattle.std.specs.Prelude.{◌∷◌, [], OnOk, string_bytes};
+    ghost use Rattle.xb_shown.specs.Pictures.{part_in};
+    ghost use Rattle.xb_rx.specs.Shown.{Shows, ShowsAll};
 
     // Takes keys and what they are, by the last key before them, and puts what is then plain after the text.
-    fn take(
-        &mut self,
-        alloc: Global,
-        out: &mut String,
-        title: Title,
-        before: Option<Heard>,
-        keys: &[NamedKey],
-    ) -> Result<(), AllocError>
-        ensures { (later : List Part) → OnOk result (string_bytes out.new ++ sheet_rest self.new later
-            ≡ string_bytes out.old ++ sheet_rest self.old (part_of title before keys.now ∷ later)) }
+    fn take(&mut self, alloc: Global, out: &mut String, part: &Part<'_>) -> Result<(), AllocError>
+        ensures { OnOk result (Shows self.old (part_in part.now ∷ []) self.new []
+            (string_bytes out.old) (string_bytes out.new)) }
     {
         match self {
-            Sheet::Page(page) => page.take(alloc, out, title, before, keys),
-            Sheet::Picture(picture) => picture.take(alloc, title, before, keys),
+            Sheet::Page(page) => page.take(alloc, out, part),
+            Sheet::Picture(picture) => picture.take(alloc, part),
         }
     }
 
     // Puts what is left where nothing more comes after the text.
     fn end(&mut self, alloc: Global, out: &mut String) -> Result<(), AllocError>
-        ensures { OnOk result (string_bytes out.new ≡ string_bytes out.old ++ sheet_rest self.old []) }
+        ensures { OnOk result (ShowsAll self.old (string_bytes out.old) (string_bytes out.new)) }
     {
         match self {
             Sheet::Page(page) => page.end(out),
-            Sheet::Picture(picture) => picture.push(alloc, out),
+            Sheet::Picture(picture) => picture.end(alloc, out),
         }
     }
 }
@@ -76,28 +68,33 @@ fn show_loose(
     before: Option<Heard>,
     keys: &[NamedKey],
 ) -> Result<Option<Heard>, AllocError>
-    ensures text { (later : List Part) → OnOk result (string_bytes out.new ++ sheet_rest sheet.new later
-        ≡ string_bytes out.old ++ sheet_rest sheet.old (loose_parts before keys.now ++ later)) }
+    ensures text { OnOk result (Shows sheet.old (loose_parts before keys.now) sheet.new []
+        (string_bytes out.old) (string_bytes out.new)) }
     ensures last { IfOk result (λ last. last ≡ last_of before keys.now) }
 {
     let mut last = before;
     for key in keys {
         let heard = key.heard();
-        sheet.take(alloc, out, Title::Loose, last, slice::from_ref(key))?;
+        let part = Part {
+            title: Title::Loose,
+            before: last,
+            keys: slice::from_ref(key),
+        };
+        sheet.take(alloc, out, &part)?;
         last = Some(heard);
     }
     Ok(last)
 }
 
 impl Parts {
-    ghost use Rattle.std.specs.Prelude.{◌≡◌, ◌≤◌, ◌<◌, ◌+◌, ◌^◌, ◌∷◌, [], ◌++◌, List, IfOk, OnOk, Some, string_bytes};
-    ghost use Rattle.xb_measured.specs.declared.heard.Heard.{Heard as HeardKey};
+    ghost use Rattle.std.specs.Prelude.{◌≡◌, ◌≤◌, ◌<◌, ◌+◌, ◌^◌, ◌∷◌, [], ◌++◌, IfOk, OnOk, Some, string_bytes, ℕ};
     ghost use Rattle.xb_measured.specs.Receivers.{listed};
     ghost use Rattle.xb_shown.specs.declared.heading.Title.TheVariants.{Entry};
-    ghost use Rattle.xb_shown.specs.Pictures.{Part, part_of};
+    ghost use Rattle.xb_shown.specs.Pictures.{part_of};
+    ghost use Rattle.xb_svg.specs.Drawings.{Looks};
     ghost use Rattle.xb_rx.specs.Begun.{IsBegun, broken, kept_after};
-    ghost use Rattle.xb_rx.specs.Pages.{Ends, Writes};
-    ghost use Rattle.xb_rx.specs.Shown.{fresh_parts, last_of, loose_parts, parts_rest, sheet_rest, shown};
+    ghost use Rattle.xb_rx.specs.Shown.{Shows, ShowsKey, fresh_parts, last_of, loose_parts, parts_rest, shown};
+    ghost use Rattle.xb_rx.specs.Styled.{EndsBy, WritesBy};
 
     /// Before the first key, on a sheet.
     pub(crate) fn new(alloc: Global, sheet: Sheet) -> Parts
@@ -124,10 +121,9 @@ impl Parts {
     // Shows the keying that this key completes.
     fn complete(&mut self, alloc: Global, key: NamedKey, out: &mut String) -> Result<(), AllocError>
         requires { self.old.count + 1 < 2 ^ 64 }
-        ensures text { (later : List Part) → OnOk result
-            (string_bytes out.new ++ sheet_rest self.new.sheet later
-            ≡ string_bytes out.old ++ sheet_rest self.old.sheet
-            (part_of (Entry (self.old.count + 1)) self.old.last (self.old.begun.items ++ key ∷ []) ∷ later)) }
+        ensures text { OnOk result (Shows self.old.sheet
+            (part_of (Entry (self.old.count + 1)) self.old.last (self.old.begun.items ++ key ∷ []) ∷ [])
+            self.new.sheet [] (string_bytes out.old) (string_bytes out.new)) }
         ensures last { OnOk result (self.new.last ≡ Some key) }
         ensures none { OnOk result (self.new.begun.items ≡ []) }
         ensures one { OnOk result (self.new.count ≡ self.old.count + 1) }
@@ -136,8 +132,12 @@ impl Parts {
         let heard = key.heard();
         self.keep(key)?;
         let number = self.count + 1;
-        self.sheet
-            .take(alloc, out, Title::Entry(number), self.last, &self.begun)?;
+        let part = Part {
+            title: Title::Entry(number),
+            before: self.last,
+            keys: &self.begun,
+        };
+        self.sheet.take(alloc, out, &part)?;
         self.count = number;
         self.last = Some(heard);
         self.begun.clear();
@@ -146,10 +146,8 @@ impl Parts {
 
     // Shows the keys of the keying that goes on as keys that stand in none.
     fn loosen(&mut self, alloc: Global, out: &mut String) -> Result<(), AllocError>
-        ensures text { (later : List Part) → OnOk result
-            (string_bytes out.new ++ sheet_rest self.new.sheet later
-            ≡ string_bytes out.old ++ sheet_rest self.old.sheet
-            (loose_parts self.old.last self.old.begun.items ++ later)) }
+        ensures text { OnOk result (Shows self.old.sheet (loose_parts self.old.last self.old.begun.items)
+            self.new.sheet [] (string_bytes out.old) (string_bytes out.new)) }
         ensures last { OnOk result (self.new.last ≡ last_of self.old.last self.old.begun.items) }
         ensures none { OnOk result (self.new.begun.items ≡ []) }
         ensures count { self.new.count ≡ self.old.count }
@@ -166,10 +164,9 @@ impl Parts {
         key: NamedKey,
         out: &mut String,
     ) -> Result<(), AllocError>
-        ensures text { (later : List Part) → OnOk result
-            (string_bytes out.new ++ sheet_rest self.new.sheet later
-            ≡ string_bytes out.old ++ sheet_rest self.old.sheet
-            (loose_parts self.old.last (broken self.old.begun.items key) ++ later)) }
+        ensures text { OnOk result (Shows self.old.sheet
+            (loose_parts self.old.last (broken self.old.begun.items key))
+            self.new.sheet [] (string_bytes out.old) (string_bytes out.new)) }
         ensures last { OnOk result (self.new.last ≡ last_of self.old.last (broken self.old.begun.items key)) }
         ensures after { OnOk result (self.new.begun.items ≡ kept_after key) }
         ensures count { self.new.count ≡ self.old.count }
@@ -187,9 +184,8 @@ impl Parts {
     fn show_key(&mut self, alloc: Global, key: NamedKey, out: &mut String) -> Result<(), AllocError>
         requires begun { IsBegun self.old.begun.items }
         requires count { self.old.count + 1 < 2 ^ 64 }
-        ensures text { (later : List HeardKey) → OnOk result
-            (string_bytes out.new ++ parts_rest (shown self.new) later
-            ≡ string_bytes out.old ++ parts_rest (shown self.old) (key ∷ later)) }
+        ensures text { OnOk result (ShowsKey (shown self.old) key (shown self.new)
+            (string_bytes out.old) (string_bytes out.new)) }
         ensures count { self.new.count ≤ self.old.count + 1 }
         ensures begun { OnOk result (IsBegun self.new.begun.items) }
     {
@@ -209,8 +205,8 @@ impl Parts {
     ) -> Result<(), PageFault>
         requires begun { IsBegun self.old.begun.items }
         requires count { self.old.count + 1 < 2 ^ 64 }
-        ensures text { Writes (λ later. parts_rest (shown self.old) (key ∷ later))
-            (parts_rest (shown self.new)) result (W.contents out.old) (W.contents out.new) }
+        ensures text { WritesBy (parts_rest (shown self.old)) (key ∷ []) (parts_rest (shown self.new))
+            result (W.contents out.old) (W.contents out.new) }
         ensures count { self.new.count ≤ self.old.count + 1 }
         ensures begun { OnOk result (IsBegun self.new.begun.items) }
     {
@@ -232,8 +228,8 @@ impl Parts {
     ) -> Result<(), PageFault>
         requires begun { IsBegun self.old.begun.items }
         requires count { self.old.count + 1 < 2 ^ 64 }
-        ensures text { Writes (λ later. parts_rest (shown self.old) (listed key ++ later))
-            (parts_rest (shown self.new)) result (W.contents out.old) (W.contents out.new) }
+        ensures text { WritesBy (parts_rest (shown self.old)) (listed key) (parts_rest (shown self.new))
+            result (W.contents out.old) (W.contents out.new) }
         ensures count { self.new.count ≤ self.old.count + 1 }
         ensures begun { OnOk result (IsBegun self.new.begun.items) }
     {
@@ -246,7 +242,8 @@ impl Parts {
     // What is left where no key comes any more.
     fn left(&mut self, alloc: Global) -> Result<String, AllocError>
         requires { IsBegun self.old.begun.items }
-        ensures { IfOk result (λ text. string_bytes text ≡ parts_rest (shown self.old) []) }
+        ensures { IfOk result (λ text. (styles : ℕ → Looks)
+            × (string_bytes text ≡ parts_rest (shown self.old) [] styles)) }
     {
         let mut text = String::new(alloc);
         self.loosen(alloc, &mut text)?;
@@ -257,7 +254,8 @@ impl Parts {
     // Writes what is left where no key comes any more.
     fn close<W: Write>(&mut self, alloc: Global, out: &mut W) -> Result<(), PageFault>
         requires { IsBegun self.old.begun.items }
-        ensures { Ends (parts_rest (shown self.old) []) result (W.contents out.old) (W.contents out.new) }
+        ensures { EndsBy (parts_rest (shown self.old) []) result
+            (W.contents out.old) (W.contents out.new) }
     {
         let text = self.left(alloc)?;
         if write_whole(out, text.as_bytes()).is_err() {
@@ -276,7 +274,7 @@ impl Parts {
     ) -> Result<(), PageFault>
         requires begun { IsBegun self.old.begun.items }
         requires count { self.old.count + 1 < 2 ^ 64 }
-        ensures { Ends (parts_rest (shown self.old) (listed key)) result
+        ensures { EndsBy (parts_rest (shown self.old) (listed key)) result
             (W.contents out.old) (W.contents out.new) }
     {
         self.take(alloc, key, out)?;

@@ -1,9 +1,6 @@
 // The program: its words and a sound in, a status and a page out.
-ghost use Rattle.std.specs.Prelude.{◌≡◌, true};
-ghost use Rattle.clap.specs.Faults.{is_simple_and_free};
 ghost use Rattle.xb_command.specs.Programs.{streams};
-ghost use Rattle.xb_command.specs.Tables.{command_by};
-ghost use Rattle.xb_command.specs.Works.{AttendsBy, Runs};
+ghost use Rattle.xb_command.specs.Works.{Runs};
 ghost use Rattle.xb_rx.specs.Hearing.{HasForm};
 ghost use Rattle.xb_rx.specs.Program.{HasFault, IsDone, by_rx};
 
@@ -14,7 +11,7 @@ use crate::words::asked_of;
 use std::alloc::Global;
 use std::io::{Read, Write};
 use xb_command::{
-    Answer, Call, DONE, Files, Program, Source, Work, ask_words, file_source, tell_fault,
+    Answer, Call, DONE, Files, Given, Program, Source, Words, Work, file_source, tell_fault,
 };
 
 // Does what is asked for, and returns the status of the process.
@@ -51,12 +48,8 @@ impl<'a> Work<'a> for Asked<'a> {
 
     ghost rules = { by_rx };
 
-    fn ask(alloc: Global, call: &Call<'a>) -> Result<Asked<'a>, Answer<'a>> {
-        let words = match ask_words(alloc, call) {
-            Ok(words) => words,
-            Err(answer) => return Err(answer),
-        };
-        match asked_of(&words) {
+    fn ask(_alloc: Global, _call: &Call<'a>, words: &Words<'a>) -> Result<Asked<'a>, Answer<'a>> {
+        match asked_of(words) {
             Ok(asked) => Ok(asked),
             Err(misfit) => Err(Answer::Unfit(misfit)),
         }
@@ -67,15 +60,15 @@ impl<'a> Work<'a> for Asked<'a> {
     }
 
     #[tactic(auto, using(crate::proofs::Formed::formed))]
-    fn run<F: Files, R: Read, W: Write, E: Write>(
-        self,
-        alloc: Global,
-        program: &Program<'a>,
-        files: &F,
-        input: &mut R,
-        out: &mut W,
-        err: &mut E,
-    ) -> u8 {
+    fn run<F: Files, R: Read, W: Write, E: Write>(self, given: Given<'_, 'a, F, R, W, E>) -> u8 {
+        let Given {
+            alloc,
+            program,
+            files,
+            input,
+            out,
+            err,
+        } = given;
         let request = Request {
             written: self.written,
             since: self.since,
@@ -92,23 +85,4 @@ impl<'a> Work<'a> for Asked<'a> {
             err,
         )
     }
-}
-
-/// Reads the words of the command line, and by them writes the page of a sound, or its keys, or what shows them, as
-/// `receive` does, or its differences from the page in a file, as `compare` does. It returns the status of the process,
-/// as `attend` of `xb_command` says.
-pub fn attend<F: Files, R: Read, W: Write, E: Write>(
-    alloc: Global,
-    call: &Call<'_>,
-    files: &F,
-    input: &mut R,
-    out: &mut W,
-    err: &mut E,
-) -> u8
-    requires { is_simple_and_free (command_by call.now.program.now) ≡ true }
-    ensures { AttendsBy by_rx call.now (F.bytes files.now)
-        (streams (R.remaining input.old) (W.contents out.old) (E.contents err.old))
-        (streams (R.remaining input.new) (W.contents out.new) (E.contents err.new)) result }
-{
-    xb_command::attend::<Asked<'_>, F, R, W, E>(alloc, call, files, input, out, err)
 }

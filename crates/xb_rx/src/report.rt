@@ -46,6 +46,7 @@ impl Report {
     ghost use Rattle.xb_rx.specs.Pages.{Ends, Writes, fresh_against};
     ghost use Rattle.xb_rx.specs.Faults.{IsLateFault};
     ghost use Rattle.xb_rx.specs.Reports.{IsReady, count_of, fresh_report, on_page, report_rest, reported, told_rest};
+    ghost use Rattle.xb_rx.specs.Styled.{EndsBy, WritesBy};
     ghost use Rattle.xb_rx.specs.Timed.{Timing, timing_by, untimed};
 
     /// What is written where no key has come yet.
@@ -83,7 +84,7 @@ impl Report {
         requires ready { IsReady (reported untimed self.old) }
         requires count { count_of (reported untimed self.old) + 1 < 2 ^ 64 }
         ensures page { (clock : Clock) → IsClockSince since clock →
-            Writes (λ later. report_rest (reported (timing_by since clock) self.old) (listed key ++ later))
+            WritesBy (report_rest (reported (timing_by since clock) self.old)) (listed key)
             (report_rest (reported (timing_by since clock) self.new))
             result (W.contents out.old) (W.contents out.new) }
         ensures told { (timing : Timing) →
@@ -115,7 +116,7 @@ impl Report {
         requires ready { IsReady (reported untimed self.old) }
         requires count { count_of (reported untimed self.old) + 1 < 2 ^ 64 }
         ensures page { (clock : Clock) → IsClockSince since clock →
-            Ends (report_rest (reported (timing_by since clock) self.old) (listed key)) result
+            EndsBy (report_rest (reported (timing_by since clock) self.old) (listed key)) result
             (W.contents out.old) (W.contents out.new) }
         ensures told { (timing : Timing) →
             Ends (told_rest (reported timing self.old) (listed key)) result

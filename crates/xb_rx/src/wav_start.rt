@@ -7,6 +7,7 @@ ghost use Rattle.xb_rx.specs.Starts.{Opens, format_of_file, frames_of, start_of_
 
 use crate::coding::{MOST_FRAMES, SampleForm};
 use crate::source::{ReadFailed, fill};
+use std::fmt;
 use std::io::Read;
 use thiserror::Error;
 use xb_riff::{HeadFault, WavFormat, WavHead};
@@ -21,14 +22,32 @@ const SAMPLES_PER_SECOND: u32 = 8_000;
 #[derive(Clone, Copy, Debug, PartialEq, Eq, Error)]
 pub enum WavFault {
     /// It has no head that says how its samples are.
-    #[error("{0}")]
     Head(HeadFault),
     /// The samples a second are not 8,000 times a divisor of 24.
-    #[error("the chunk \"fmt \" has {0} samples a second, and not 8000 times 1, 2, 3, 4, 6, 8, 12 or 24: sox IN.wav -r 8000 OUT.wav")]
     Rate(u32),
     /// It has so many channels, and not the one that is asked for.
-    #[error("the chunk \"fmt \" has {0} channels, and --channel names another one")]
     Channel(u8),
+}
+
+impl fmt::Display for WavFault {
+    ghost use Rattle.std.specs.Prelude.{Some};
+    ghost use Rattle.xb_rx.specs.FaultTexts.{wav_text};
+
+    ghost output = { λ fault. Some (wav_text fault) };
+
+    fn fmt<W: fmt::Write>(&self, f: &mut fmt::Formatter<W>) -> fmt::Result {
+        match self {
+            WavFault::Head(fault) => write!(f, "{fault}"),
+            WavFault::Rate(rate) => write!(
+                f,
+                "the chunk \"fmt \" has {rate} samples a second, and not 8000 times 1, 2, 3, 4, 6, 8, 12 or 24: sox IN.wav -r 8000 OUT.wav"
+            ),
+            WavFault::Channel(channels) => write!(
+                f,
+                "the chunk \"fmt \" has {channels} channels, and --channel names another one"
+            ),
+        }
+    }
 }
 
 /// Why a file was not opened.

@@ -9,7 +9,7 @@ use crate::{Coding, MOST_CHANNELS, SampleForm, frames_of};
 use jiff_core::Timestamp;
 use xb_clock::{Since, no_time, since_of};
 use xb_command::{FLAG, Misfit, NOTHING, Program, Value, Word, Words};
-use xb_model::{LINES, LineNo, TRUNKS, Trunk};
+use xb_model::{LineNo, TRUNKS, Trunk};
 
 /// The program and its words.
 pub const PROGRAM: Program<'static> = Program {
@@ -195,12 +195,7 @@ fn options_of<'a>(words: &Words<'a>) -> Options<'a>
 fn line_of(given: Option<u32>) -> Option<LineNo>
     ensures { result ≡ line_of given }
 {
-    let line = given.unwrap_or(0);
-    if line < u32::from(LINES) {
-        LineNo::new(line as u16)
-    } else {
-        None
-    }
+    LineNo::of_number(given.unwrap_or(0))
 }
 
 // The trunk group that is given, or group 0; `None` where there is no such group.

@@ -1,16 +1,15 @@
 -- What is wrong at the end of sound.
-use Rattle.std.proofs.Common.{◌≡◌, ℕ, zero, suc, ◌-◌, ℤ, List, [], ◌∷◌, ◌++◌, Bool, Option, Some, None, refl, ap, sym, subst, ◌∙◌, arith}
+use Rattle.std.proofs.Common.{◌≡◌, ℕ, ℤ, List, [], ◌++◌, Bool, Option, ap, sym, ◌∙◌}
 use Rattle.std.specs.Prelude.{Ok}
 use Rattle.xb_contact.specs.declared.event.Event.{Event}
-use Rattle.xb_contact.specs.declared.event.Event.TheVariants.{At}
 use Rattle.xb_contact.specs.Steps.{result_and_then}
 use Rattle.xb_riff.specs.declared.coding.Coding.{Coding}
 use Rattle.xb_samples.specs.declared.sound.Channel.{Channel}
 use Rattle.xb_samples.specs.declared.sound.Sound.{Sound}
-use Rattle.xb_samples.specs.Pieces.{SamplesSay, after_piece, samples_events, without_waits}
-use Rattle.xb_samples.specs.Sounds.{SoundSays, SoundState, begun_sound, bytes_say, end_fault, begun_after, own_bytes, samples_after, samples_left, samples_of, sound_begins, sound_fault, sound_reading, sound_says, sound_state, unless, wires_of, wires_say}
+use Rattle.xb_samples.specs.Pieces.{after_piece, samples_events}
+use Rattle.xb_samples.specs.Sounds.{SoundState, begun_sound, bytes_say, end_fault, begun_after, own_bytes, samples_after, samples_left, samples_of, sound_begins, sound_fault, sound_reading, sound_says, sound_state, unless, wires_of, wires_say}
 use Rattle.xb_samples.specs.Tails.{IsNewTail, follows_more, left_after, more_follows}
-use Rattle.xb_samples.proofs.SoundLemmas.{none-after, samples_left-append}
+use Rattle.xb_samples.proofs.SoundLemmas.{samples_left-append}
 use Rattle.xb_samples.proofs.TailLemmas.{left-then, new_tail}
 use Rattle.xb_samples.proofs.WaitLemmas.{after-piece}
 
@@ -37,36 +36,6 @@ sound_faults old new bytes own is state begun left how tails text =
     ap (λ (l : Option ℕ). end_fault l (follows_more new.tail text) (after_piece sound_reading (sound_state new) rest)) missing
     ∙ ap (λ (more : Bool). end_fault (left_after old.left (bytes ++ text)) more (after_piece sound_reading (sound_state new) rest)) (tails text)
     ∙ ap (end_fault (left_after old.left (bytes ++ text)) (follows_more old.tail (bytes ++ text))) all
-
--- nothing more comes
-left-none : (left : Option ℕ) → left_after left [] ≡ left
-left-none None = refl
-left-none (Some n) =
-    let all : n - 0 ≡ n = omega arith in
-    ap (λ m. Some m) all
-
-own-none : (left : Option ℕ) → own_bytes left [] ≡ []
-own-none None = refl
-own-none (Some zero) = refl
-own-none (Some (suc n)) = refl
-
-no-samples : (sound : Sound) → samples_left sound [] ≡ []
-no-samples sound =
-    ap (samples_after sound.coding sound.begun.items) (own-none sound.left) ∙ none-after sound.coding sound.begun.items
-
-pub fault_is :
-    (sound : Sound) → sound_fault sound [] ≡ end_fault sound.left (follows_more sound.tail []) (sound_state sound)
-fault_is sound =
-    ap (λ (l : Option ℕ). end_fault l (follows_more sound.tail []) (after_piece sound_reading (sound_state sound) (samples_left sound [])))
-    (left-none sound.left)
-    ∙ ap (λ (s : List ℤ). end_fault sound.left (follows_more sound.tail []) (after_piece sound_reading (sound_state sound) s)) (no-samples sound)
-
-pub sound_ends :
-    (sound : Sound) (said : List Event) → said ≡ At sound.count ∷ []
-    → None ≡ end_fault sound.left (follows_more sound.tail []) (sound_state sound) → SoundSays sound [] said
-sound_ends sound said is none =
-    let P : List ℤ → Type 0 = λ s. SamplesSay sound_reading (sound_state sound) s said in
-    (subst P (sym (no-samples sound)) (ap without_waits is), fault_is sound ∙ sym none)
 
 -- all of a sound that has begun
 pub new_sound_says :

@@ -6,14 +6,14 @@ use Rattle.std.specs.Prelude.{◌==◌, ◌&&◌, ◌||◌, max, unsigned_abs}
 use Rattle.xb_samples.specs.declared.sound.Channel.{Channel}
 use Rattle.xb_samples.specs.Greatest.{MeasuresTheGreatest, greatest_of, samples_of_wires}
 use Rattle.xb_samples.specs.Pieces.{after_piece}
-use Rattle.xb_samples.specs.Sounds.{SoundState, begun_sound, greatest_after, heard_state, is_channel, level_by, sound_reading, wire_after}
+use Rattle.xb_samples.specs.Sounds.{SoundState, begun_sound, greatest_after, heard_state, heard_by, is_channel, sound_reading, wire_after}
 
 -- a wire stays the channel that it is
 same-number :
     (channel : ℕ) (high sample : ℤ) (wire : Channel) → (wire_after channel high sample wire).number ≡ wire.number
 same-number channel high sample wire = at (wire.number == channel)
   where
-    at : (own : Bool) → (cond own (record wire { level = level_by high wire.level sample }) wire).number ≡ wire.number
+    at : (own : Bool) → (cond own (record wire { heard = heard_by high wire.heard sample }) wire).number ≡ wire.number
     at true = refl
     at false = refl
 

@@ -8,5 +8,6 @@ pub mod SoundLemmas
 pub mod EndLemmas
 pub mod GreatestSamples
 pub mod FaultLemmas
+pub mod Spikes
 pub mod TurnLemmas
 pub mod ToldTurns

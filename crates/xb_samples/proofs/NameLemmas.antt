@@ -10,7 +10,7 @@ use Rattle.xb_contact.specs.Steps.{result_and_then, result_map}
 use Rattle.xb_samples.specs.declared.bits.Width.{Width}
 use Rattle.xb_samples.specs.declared.sound.Channel.{Channel}
 use Rattle.xb_samples.specs.Samples.{mask_of, masks_from}
-use Rattle.xb_samples.specs.Sounds.{channel_of, open_wire, wires_from}
+use Rattle.xb_samples.specs.Sounds.{channel_of, new_wire, wires_from}
 
 -- the texts of names
 abbrev pub texts : List (Bor (List ℕ)) → List (List ℕ)
@@ -70,12 +70,12 @@ pub wires_more :
     (channels : ℕ) (names : List (Bor (List ℕ))) (i : ℕ) (none : Bor (List ℕ)) (before now : List Channel) (number : ℕ)
     (all : Result (List Channel) Refusal)
     → i < length names → Some number ≡ channel_of channels (get_or names i none).now
-    → now ≡ before ++ open_wire number ∷ []
+    → now ≡ before ++ new_wire number ∷ []
     → result_map (λ later. before ++ later) (wires_from i channels (texts (drop i names))) ≡ all
     → result_map (λ later. now ++ later) (wires_from (i + 1) channels (texts (drop (i + 1) names))) ≡ all
 unfolding named
 wires_more channels names i none before now number all h is e so_far =
-    named-more i open_wire before now number (wires_from (i + 1) channels (texts (drop (i + 1) names)))
+    named-more i new_wire before now number (wires_from (i + 1) channels (texts (drop (i + 1) names)))
     (channel_of channels (get_or names i none).now) is e
     ∙ sym (at_drop_more (λ more. result_map (λ later. before ++ later) (wires_from i channels (texts more))) names i none h)
     ∙ so_far
@@ -97,4 +97,4 @@ unfolding named
 wires_refused channels names i none wires all h is so_far =
     sym so_far
     ∙ at_drop_more (λ more. result_map (λ later. wires ++ later) (wires_from i channels (texts more))) names i none h
-    ∙ ap (named i open_wire wires (wires_from (i + 1) channels (texts (drop (i + 1) names)))) (sym is)
+    ∙ ap (named i new_wire wires (wires_from (i + 1) channels (texts (drop (i + 1) names)))) (sym is)

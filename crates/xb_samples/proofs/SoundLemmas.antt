@@ -11,13 +11,14 @@ use Rattle.xb_contact.specs.Steps.{AddsAll, IsRefusedBy, result_and_then, result
 use Rattle.xb_contact.specs.declared.level.Level.{Level}
 use Rattle.xb_contact.specs.declared.level.Level.TheVariants.{Open, Closed}
 use Rattle.xb_samples.specs.declared.sound.Channel.{Channel}
+use Rattle.xb_samples.specs.declared.sound.TheConstants.{FIRST_TICK}
 use Rattle.xb_samples.specs.declared.sound.Sound.{Sound}
 use Rattle.xb_samples.specs.Hysteresis.{IsHeard}
 use Rattle.xb_samples.specs.Pieces.{RunsOver, SamplesSay, after_piece, begins_from, piece_events, without_waits}
 use Rattle.xb_samples.specs.Samples.{rate_says}
 use Rattle.xb_riff.specs.declared.coding.Coding.{Coding}
 use Rattle.xb_riff.specs.Codings.{sample_at, width}
-use Rattle.xb_samples.specs.Sounds.{SoundSays, SoundState, bytes_say, change_said, changes_said, greatest_after, level_by, levels_said, begun_after, own_bytes, samples_after, samples_left, sound_begins, sound_fault, sound_reading, sound_says, sound_state, turned, wire_after, wires_of, wires_say}
+use Rattle.xb_samples.specs.Sounds.{SoundSays, SoundState, bytes_say, changes_said, edge_said, greatest_after, is_level, level_by, level_in, rest_said, rests_said, begun_after, own_bytes, samples_after, samples_left, sound_begins, sound_fault, sound_reading, sound_says, sound_state, turned, wire_after, wires_of, wires_say}
 use Rattle.xb_samples.specs.Tails.{left_after}
 use Rattle.xb_samples.proofs.WaitLemmas.{SayWhen, after-piece, piece-piece, piece_says, until-begins}
 
@@ -38,12 +39,17 @@ heard_is high sample was level some is =
 
 -- each change is said after a tick
 change-when :
-    (from tick wire : ℕ) (was level : Level) (rest : List Event) → from ≤ tick → begins_from from (without_waits rest) ≡ true
-    → begins_from from (without_waits (change_said tick wire was level ++ rest)) ≡ true
-change-when from tick wire Open Open rest less h = h
-change-when from tick wire Closed Closed rest less h = h
-change-when from tick wire Open Closed rest less h = until-begins from tick (events.Level wire Closed ∷ without_waits rest) less
-change-when from tick wire Closed Open rest less h = until-begins from tick (events.Level wire Open ∷ without_waits rest) less
+    (from tick wire : ℕ) (was level : Option Level) (rest : List Event) → from ≤ tick
+    → begins_from from (without_waits rest) ≡ true
+    → begins_from from (without_waits (edge_said tick wire was level ++ rest)) ≡ true
+change-when from tick wire was None rest less h = h
+change-when from tick wire was (Some level) rest less h = by (is_level was level)
+  where
+    by :
+        (b : Bool)
+        → begins_from from (without_waits (cond b [] (events.At tick ∷ events.Edge wire level ∷ []) ++ rest)) ≡ true
+    by true = h
+    by false = until-begins from tick (events.Edge wire level ∷ without_waits rest) less
 
 changes-when :
     (from channel : ℕ) (high : ℤ) (tick : ℕ) (sample : ℤ) (wire : ℕ) (wires : List Channel) (later : List Event)
@@ -51,10 +57,11 @@ changes-when :
     → begins_from from (without_waits (changes_said channel high tick sample wire wires ++ later)) ≡ true
 changes-when from channel high tick sample wire [] later less h = h
 changes-when from channel high tick sample wire (own ∷ rest) later less h =
-    let said = change_said tick wire own.level (wire_after channel high sample own).level in
+    let now : Option Level = level_in (wire_after channel high sample own).heard in
+    let said = edge_said tick wire (level_in own.heard) now in
     let more = changes_said channel high tick sample (wire + 1) rest in
     ap (λ m. begins_from from (without_waits m)) (append_assoc said more later)
-    ∙ change-when from tick wire own.level (wire_after channel high sample own).level (more ++ later) less
+    ∙ change-when from tick wire (level_in own.heard) now (more ++ later) less
     (changes-when from channel high tick sample (wire + 1) rest later less h)
 
 turn-grows : (state : SoundState) (last : Bool)
@@ -260,16 +267,16 @@ pub change_heard :
     (channel : ℕ) (high : ℤ) (tick : ℕ) (sample : ℤ) (wires : List Channel) (i : ℕ) (none wire : Channel)
     (mid now all : List Event)
     → i < length wires → wire ≡ wire_after channel high sample (get_or wires i none)
-    → now ≡ mid ++ change_said tick i (get_or wires i none).level wire.level
+    → now ≡ mid ++ edge_said tick i (level_in (get_or wires i none).heard) (level_in wire.heard)
     → mid ++ changes_said channel high tick sample i (drop i wires) ≡ all
     → now ++ changes_said channel high tick sample (i + 1) (drop (i + 1) (set wires i wire)) ≡ all
 change_heard channel high tick sample wires i none wire mid now all h is e so_far =
-    let was : Level = (get_or wires i none).level in
+    let was : Option Level = level_in (get_or wires i none).heard in
     let more : List Event = changes_said channel high tick sample (i + 1) (drop (i + 1) wires) in
     ap (λ (k : List Channel). now ++ changes_said channel high tick sample (i + 1) k)
     (drop-set-lt (i + 1) wires i wire (omega arith))
-    ∙ ap (λ (n : List Event). n ++ more) e ∙ append_assoc mid (change_said tick i was wire.level) more
-    ∙ ap (λ (w : Channel). mid ++ (change_said tick i was w.level ++ more)) is
+    ∙ ap (λ (n : List Event). n ++ more) e ∙ append_assoc mid (edge_said tick i was (level_in wire.heard)) more
+    ∙ ap (λ (w : Channel). mid ++ (edge_said tick i was (level_in w.heard) ++ more)) is
     ∙ sym (at_drop_more (λ (k : List Channel). mid ++ changes_said channel high tick sample i k) wires i none h)
     ∙ so_far
 
@@ -311,42 +318,39 @@ changes_heard channel high own tick sample heard wires old i now before h e f so
     ∙ sym (at_drop_all (λ (k : List Channel). now ++ changes_said channel own tick heard i k) wires i h) ∙ so_far
     ∙ changes_same channel own high tick heard sample old old before e f refl
 
--- the level of one more wire
-pub level_said :
+-- one more wire rests, or has a level
+pub rest_more :
     (wires : List Channel) (i : ℕ) (none : Channel) (mid now all : List Event) → i < length wires
-    → now ≡ mid ++ events.Level i (get_or wires i none).level ∷ [] → mid ++ levels_said i (drop i wires) ≡ all
-    → now ++ levels_said (i + 1) (drop (i + 1) wires) ≡ all
-level_said wires i none mid now all h e so_far =
-    let rest : List Event = levels_said (i + 1) (drop (i + 1) wires) in
+    → now ≡ mid ++ rest_said i (level_in (get_or wires i none).heard) → mid ++ rests_said i (drop i wires) ≡ all
+    → now ++ rests_said (i + 1) (drop (i + 1) wires) ≡ all
+rest_more wires i none mid now all h e so_far =
+    let rest : List Event = rests_said (i + 1) (drop (i + 1) wires) in
     ap (λ (n : List Event). n ++ rest) e
-    ∙ append_assoc mid (events.Level i (get_or wires i none).level ∷ []) rest
-    ∙ sym (at_drop_more (λ (k : List Channel). mid ++ levels_said i k) wires i none h) ∙ so_far
+    ∙ append_assoc mid (rest_said i (level_in (get_or wires i none).heard)) rest
+    ∙ sym (at_drop_more (λ (k : List Channel). mid ++ rests_said i k) wires i none h) ∙ so_far
 
 pub all_said :
-    (wires : List Channel) (i : ℕ) (now all : List Event) → length wires ≤ i → now ++ levels_said i (drop i wires) ≡ all
+    (wires : List Channel) (i : ℕ) (now all : List Event) → length wires ≤ i → now ++ rests_said i (drop i wires) ≡ all
     → now ≡ all
 all_said wires i now all h so_far =
-    sym (append-nil now) ∙ sym (at_drop_all (λ (k : List Channel). now ++ levels_said i k) wires i h) ∙ so_far
+    sym (append-nil now) ∙ sym (at_drop_all (λ (k : List Channel). now ++ rests_said i k) wires i h) ∙ so_far
 
 -- what is said before the first sample
 pub sound_begun :
-    (rate : Option ℕ) (all : Result (List Channel) Refusal) (wires said : List Channel) (old told waits new : List Event)
-    → all ≡ Ok wires → AddsAll (rate_says rate) old told → waits ≡ told ++ events.At 0 ∷ [] → said ≡ wires
-    → new ≡ waits ++ levels_said 0 said → AddsAll (result_and_then (sound_begins rate) all) old new
-sound_begun rate all wires said old told waits new is h e f g =
+    (rate : Option ℕ) (all : Result (List Channel) Refusal) (wires : List Channel) (old told new : List Event)
+    → all ≡ Ok wires → AddsAll (rate_says rate) old told → new ≡ told ++ events.At FIRST_TICK ∷ []
+    → AddsAll (result_and_then (sound_begins rate) all) old new
+sound_begun rate all wires old told new is h e =
     let P : Result (List Channel) Refusal → Type 0 = λ r. AddsAll (result_and_then (sound_begins rate) r) old new in
     subst P (sym is) (at (rate_says rate) h)
   where
     at :
         (first : Result (List Event) Refusal) → AddsAll first old told
-        → AddsAll (result_map (λ s. s ++ events.At 0 ∷ levels_said 0 wires) first) old new
+        → AddsAll (result_map (λ s. s ++ events.At FIRST_TICK ∷ []) first) old new
     at (Err refusal) k = elim k [ ]
     at (Ok own) k =
-        g ∙ ap (λ (w : List Event). w ++ levels_said 0 said) e
-        ∙ append_assoc told (events.At 0 ∷ []) (levels_said 0 said)
-        ∙ ap (λ (w : List Channel). told ++ (events.At 0 ∷ levels_said 0 w)) f
-        ∙ ap (λ (t : List Event). t ++ (events.At 0 ∷ levels_said 0 wires)) k
-        ∙ append_assoc old own (events.At 0 ∷ levels_said 0 wires)
+        e ∙ ap (λ (t : List Event). t ++ events.At FIRST_TICK ∷ []) k
+        ∙ append_assoc old own (events.At FIRST_TICK ∷ [])
 
 -- a sound whose wires or rate are refused
 pub wires_refuse :
@@ -364,7 +368,7 @@ pub rate_refuses :
 rate_refuses how channels high names wires rate size refusal is h = λ bytes other.
     ap (result_and_then (wires_say how channels high rate size bytes)) is
     ∙ ap (λ r. result_and_then (bytes_say how channels high size bytes wires)
-    (result_map (λ said. said ++ events.At 0 ∷ levels_said 0 wires) r)) (h other)
+    (result_map (λ said. said ++ events.At FIRST_TICK ∷ []) r)) (h other)
 
 -- the own bytes of a sound are no more than all of them
 own-length : (left : Option ℕ) (bytes : List ℕ) → length (own_bytes left bytes) ≤ length bytes

@@ -3,14 +3,15 @@ use Rattle.std.proofs.Common.{◌≡◌, ℕ, ◌+◌, ◌<◌, ◌≤◌, List,
 use Rattle.std.proofs.lemmas.Bool.Decides.{nat_tests}
 use Rattle.std.proofs.lemmas.List.{at_drop_all, at_drop_more}
 use Rattle.xb_contact.specs.declared.event.Event.{Event}
-use Rattle.xb_contact.specs.declared.event.Event.TheVariants.{At, Level, Ticks}
-use Rattle.xb_samples.specs.Pieces.{Reading, SamplesSay, SayTheSame, after_piece, begins_from, piece_events, samples_events, until, without_waits}
+use Rattle.xb_contact.specs.declared.event.Event.TheVariants.{At, Edge, Level, Ticks}
+use Rattle.xb_samples.specs.Pieces.{Reading, SamplesSay, SayTheSame, after_piece, begins_from, ends_at, piece_events, samples_events, until, without_waits}
 
 -- what stands before does not matter
 pub same-after : (said a b : List Event) → SayTheSame a b → SayTheSame (said ++ a) (said ++ b)
 same-after [] a b h = h
 same-after (At tick ∷ rest) a b h = ap (until tick) (same-after rest a b h)
 same-after (Level wire level ∷ rest) a b h = ap (λ said. Level wire level ∷ said) (same-after rest a b h)
+same-after (Edge wire level ∷ rest) a b h = ap (λ said. Edge wire level ∷ said) (same-after rest a b h)
 same-after (Ticks scale ∷ rest) a b h = ap (λ said. Ticks scale ∷ said) (same-after rest a b h)
 
 -- what begins from a tick on begins from an earlier one on
@@ -19,6 +20,7 @@ begins-before :
 begins-before tick count [] less h = h
 begins-before tick count (At later ∷ rest) less h = grind (arith, nat_tests)
 begins-before tick count (Level wire level ∷ rest) less h = h
+begins-before tick count (Edge wire level ∷ rest) less h = h
 begins-before tick count (Ticks scale ∷ rest) less h = h
 
 pub until-begins : (tick count : ℕ) (said : List Event) → tick ≤ count → begins_from tick (until count said) ≡ true
@@ -39,10 +41,10 @@ SayWhen {S} {A} reading =
 samples-begin :
     {S A : Type 0} (reading : Reading S A) (state : S) (tick : ℕ) (samples : List A) → SayWhen reading
     → tick ≤ reading.now state → begins_from tick (without_waits (samples_events reading state samples)) ≡ true
-samples-begin reading state tick [] when less = until-begins tick (reading.now state) [] less
+samples-begin reading state tick [] when less = until-begins tick (reading.now state) (without_waits (reading.rests state)) less
 samples-begin reading state tick (sample ∷ rest) when less =
     let whole = append_assoc (reading.says state sample) (piece_events reading (reading.next state sample) rest)
-    (At (reading.now (after_piece reading (reading.next state sample) rest)) ∷ []) in
+    (ends_at reading (after_piece reading (reading.next state sample) rest)) in
     let grows : reading.now state ≤ reading.now (reading.next state sample) = (when state sample).0 in
     ap (λ said. begins_from tick (without_waits said)) whole
     ∙ (when state sample).1 tick (samples_events reading (reading.next state sample) rest) less
@@ -80,10 +82,10 @@ samples-piece :
     ≡ piece_events reading state piece ++ samples_events reading (after_piece reading state piece) text
 samples-piece {S} {A} reading state piece text =
     let mid : S = after_piece reading state piece in
-    ap (λ said. said ++ At (reading.now (after_piece reading state (piece ++ text))) ∷ []) (piece-piece reading state piece text)
+    ap (λ said. said ++ ends_at reading (after_piece reading state (piece ++ text))) (piece-piece reading state piece text)
     ∙ append_assoc (piece_events reading state piece) (piece_events reading mid text)
-    (At (reading.now (after_piece reading state (piece ++ text))) ∷ [])
-    ∙ ap (λ s. piece_events reading state piece ++ (piece_events reading mid text ++ At (reading.now s) ∷ []))
+    (ends_at reading (after_piece reading state (piece ++ text)))
+    ∙ ap (λ s. piece_events reading state piece ++ (piece_events reading mid text ++ ends_at reading s))
     (after-piece reading state piece text)
 
 -- so a piece that ends in a wait says what its samples do

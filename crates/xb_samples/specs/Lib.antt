@@ -3,6 +3,7 @@ pub mod Hysteresis
 pub mod Pieces
 pub mod Samples
 pub mod Sounds
+pub mod Spikes
 pub mod Tails
 pub mod Thresholds
 pub mod Wavs

@@ -1,15 +1,17 @@
 -- What samples say, in pieces as they come.
 use Rattle.std.specs.Prelude.{◌≡◌, ◌≢◌, ℕ, ◌+◌, ◌^◌, ◌≤◌, List, [], ◌∷◌, ◌++◌, Bool, false, if◌then◌else◌, nat_le}
 use Rattle.xb_contact.specs.declared.event.Event.{Event}
-use Rattle.xb_contact.specs.declared.event.Event.TheVariants.{At, Level, Ticks}
+use Rattle.xb_contact.specs.declared.event.Event.TheVariants.{At, Edge, Level, Ticks}
 use Rattle.xb_contact.specs.declared.event.Refusal.{Refusal}
 use Rattle.xb_contact.specs.declared.event.Refusal.TheVariants.{NoMemory}
 
--- how samples are read: what each says, what is known after it, and how many ticks have gone by
+-- how samples are read: what each says, what is known after it, how many ticks have gone by, and what is said where they
+-- end
 pub record Reading (S A : Type 0) : Type 0 where
   pub says : S → A → List Event
   pub next : S → A → S
   pub now : S → ℕ
+  pub rests : S → List Event
 
 -- what samples say, one after the other, and what is known after them
 abbrev pub piece_events : {S A : Type 0} → Reading S A → S → List A → List Event
@@ -22,15 +24,19 @@ after_piece {S} {A} reading state [] = state
 after_piece {S} {A} reading state (sample ∷ rest) = after_piece reading (reading.next state sample) rest
 
 -- all samples, up to where they go
+abbrev pub ends_at : {S A : Type 0} → Reading S A → S → List Event
+ends_at {S} {A} reading state = At (reading.now state) ∷ reading.rests state
+
 abbrev pub samples_events : {S A : Type 0} → Reading S A → S → List A → List Event
 samples_events {S} {A} reading state samples =
-    piece_events reading state samples ++ At (reading.now (after_piece reading state samples)) ∷ []
+    piece_events reading state samples ++ ends_at reading (after_piece reading state samples)
 
 -- whether what is said begins with a tick from this one on
 abbrev pub begins_from : ℕ → List Event → Bool
 begins_from tick [] = false
 begins_from tick (At later ∷ rest) = nat_le tick later
 begins_from tick (Level wire level ∷ rest) = false
+begins_from tick (Edge wire level ∷ rest) = false
 begins_from tick (Ticks scale ∷ rest) = false
 
 -- that the levels hold up to a tick says nothing where they hold up to that or a later one: a reader says it
@@ -42,6 +48,7 @@ abbrev pub without_waits : List Event → List Event
 without_waits [] = []
 without_waits (At tick ∷ rest) = until tick (without_waits rest)
 without_waits (Level wire level ∷ rest) = Level wire level ∷ without_waits rest
+without_waits (Edge wire level ∷ rest) = Edge wire level ∷ without_waits rest
 without_waits (Ticks scale ∷ rest) = Ticks scale ∷ without_waits rest
 
 abbrev pub SayTheSame : List Event → List Event → Type 0

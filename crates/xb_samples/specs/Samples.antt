@@ -102,6 +102,7 @@ bits_reading = record {
   says = λ state byte. events_by state (sample_with state.width state.lower byte);
   next = λ state byte. state_by state byte (sample_with state.width state.lower byte);
   now = λ state. state.count;
+  rests = λ state. [];
 }
 
 -- how long a tick is where a second has so many samples

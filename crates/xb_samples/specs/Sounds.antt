@@ -1,5 +1,5 @@
 -- What sound says: samples, each channel's in turn.
-use Rattle.std.specs.Prelude.{◌≡◌, ℕ, ◌+◌, ◌*◌, ◌/◌, ℤ, pos, neg_ℤ, int_le, List, [], ◌∷◌, ◌++◌, Bool, Option, Some, None, Result, Ok, Err, length, map, nat_le, nat_lt, take, unsigned_abs, unwrap_or, ◌==◌, ◌&&◌, if◌then◌else◌}
+use Rattle.std.specs.Prelude.{◌≡◌, ℕ, ◌+◌, ◌*◌, ◌/◌, ℤ, pos, neg_ℤ, int_le, List, [], ◌∷◌, ◌++◌, Bool, true, false, Option, Some, None, Result, Ok, Err, length, map, nat_le, nat_lt, not, take, unsigned_abs, unwrap_or, ◌==◌, ◌&&◌, if◌then◌else◌}
 use Rattle.std.specs.List.{list_any}
 use Rattle.std.specs.Option.{ok_or, option_and_then}
 use Rattle.xb_contact.specs.declared.event.Event.{Event}
@@ -12,6 +12,9 @@ use Rattle.xb_contact.specs.declared.level.Level.{Level}
 use Rattle.xb_contact.specs.declared.level.Level.TheVariants.{Open, Closed}
 use Rattle.xb_contact.specs.Holds.{same_level}
 use Rattle.xb_samples.specs.declared.sound.Channel.{Channel}
+use Rattle.xb_samples.specs.declared.sound.Heard.{Heard}
+use Rattle.xb_samples.specs.declared.sound.Heard.TheVariants as heard
+use Rattle.xb_samples.specs.declared.sound.TheConstants.{FIRST_TICK}
 use Rattle.xb_samples.specs.declared.sound.Sound.{Sound}
 use Rattle.xb_samples.specs.Thresholds.{Percent}
 use Rattle.xb_riff.specs.declared.coding.Coding.{Coding}
@@ -50,25 +53,64 @@ high_of threshold = pos (threshold.percent * 327)
 abbrev pub level_by : ℤ → Level → ℤ → Level
 level_by high was sample = if int_le high sample then Closed else (if int_le sample (neg_ℤ high) then Open else was)
 
+-- before its first edge: a sample is on the side of closed from the threshold on, on that of open from its opposite on
+abbrev pub side_of : ℤ → ℤ → Option Level
+side_of high sample =
+    if int_le high sample then Some Closed else (if int_le sample (neg_ℤ high) then Some Open else None)
+
+-- it is at rest under half of the threshold
+abbrev pub is_at_rest : ℤ → ℤ → Bool
+is_at_rest high sample = nat_lt (2 * unsigned_abs sample) (unsigned_abs high)
+
+-- a sample on the side of a level is an edge to it, where the wire was at rest, or on the other side
+abbrev pub can_leave : Heard → Level → Bool
+can_leave heard.Nothing level = false
+can_leave heard.Rest level = true
+can_leave (heard.Side side) level = not (same_level side level)
+can_leave (heard.Level side) level = not (same_level side level)
+
+abbrev pub first_heard : Option Level → Bool → Heard → Heard
+first_heard None rests own = if rests then heard.Rest else own
+first_heard (Some level) rests own = if can_leave own level then heard.Level level else heard.Side level
+
+-- what was heard of a wire after a sample
+abbrev pub heard_by : ℤ → Heard → ℤ → Heard
+heard_by high (heard.Level was) sample = heard.Level (level_by high was sample)
+heard_by high heard.Nothing sample = first_heard (side_of high sample) (is_at_rest high sample) heard.Nothing
+heard_by high heard.Rest sample = first_heard (side_of high sample) (is_at_rest high sample) heard.Rest
+heard_by high (heard.Side side) sample = first_heard (side_of high sample) (is_at_rest high sample) (heard.Side side)
+
 -- a wire after a sample of a channel
 abbrev pub wire_after : ℕ → ℤ → ℤ → Channel → Channel
 wire_after channel high sample wire =
-    if wire.number == channel then record wire { level = level_by high wire.level sample } else wire
+    if wire.number == channel then record wire { heard = heard_by high wire.heard sample } else wire
 
--- a change is said, with the tick up to which the old level held
-abbrev pub change_said : ℕ → ℕ → Level → Level → List Event
-change_said tick wire was level =
-    if same_level was level then [] else events.At tick ∷ events.Level wire level ∷ []
+-- its level after its edges
+abbrev pub level_in : Heard → Option Level
+level_in (heard.Level level) = Some level
+level_in heard.Nothing = None
+level_in heard.Rest = None
+level_in (heard.Side side) = None
 
--- the changes of the wires from this one on
+-- an edge is said, with the tick up to which the old level held
+abbrev pub is_level : Option Level → Level → Bool
+is_level None level = false
+is_level (Some was) level = same_level was level
+
+abbrev pub edge_said : ℕ → ℕ → Option Level → Option Level → List Event
+edge_said tick wire was None = []
+edge_said tick wire was (Some level) =
+    if is_level was level then [] else events.At tick ∷ events.Edge wire level ∷ []
+
+-- the edges of the wires from this one on
 abbrev pub changes_said : ℕ → ℤ → ℕ → ℤ → ℕ → List Channel → List Event
 changes_said channel high tick sample wire [] = []
 changes_said channel high tick sample wire (own ∷ rest) =
-    change_said tick wire own.level (wire_after channel high sample own).level
+    edge_said tick wire (level_in own.heard) (level_in (wire_after channel high sample own).heard)
     ++ changes_said channel high tick sample (wire + 1) rest
 
--- the wires with their levels, how many channels there are, the least sample that is high, whose turn it is, how many
--- ticks have gone by, and the greatest sample of the wires, whatever its sign
+-- the wires with what was heard of them, how many channels there are, the least sample that is high, whose turn it is, how
+-- many ticks have gone by, counted on from the first, and the greatest sample of the wires, whatever its sign
 pub record SoundState : Type 0 where
   pub wires : List Channel
   pub channels : ℕ
@@ -90,7 +132,7 @@ sound_state sound = record {
 -- the first channel's turn, before any tick
 abbrev pub begun_sound : ℕ → ℤ → List Channel → SoundState
 begun_sound channels high wires =
-    record { wires = wires; channels = channels; high = high; channel = 1; count = 0; greatest = 0 }
+    record { wires = wires; channels = channels; high = high; channel = 1; count = FIRST_TICK; greatest = 0 }
 
 -- the samples of all channels are a tick
 abbrev pub turned : SoundState → SoundState
@@ -116,11 +158,21 @@ heard_state state sample =
       greatest = greatest_after state.channel state.wires state.greatest sample;
     })
 
+-- at the end a wire without an edge rests
+abbrev pub rest_said : ℕ → Option Level → List Event
+rest_said wire None = events.Level wire Open ∷ []
+rest_said wire (Some level) = []
+
+abbrev pub rests_said : ℕ → List Channel → List Event
+rests_said wire [] = []
+rests_said wire (own ∷ rest) = rest_said wire (level_in own.heard) ++ rests_said (wire + 1) rest
+
 abbrev pub sound_reading : Reading SoundState ℤ
 sound_reading = record {
   says = λ state sample. changes_said state.channel state.high state.count sample 0 state.wires;
   next = heard_state;
   now = λ state. state.count;
+  rests = λ state. rests_said 0 state.wires;
 }
 
 -- a greatest sample is quiet under three times the least one that is high
@@ -137,7 +189,7 @@ abbrev pub end_fault : Option ℕ → Bool → SoundState → Option Refusal
 end_fault left more state =
     if nat_lt 0 (unwrap_or left 0) then Some (refusals.CutOff (unwrap_or left 0))
     else (if more then Some refusals.MoreFollows
-    else (if state.count == 0 then Some refusals.Empty
+    else (if state.count == FIRST_TICK then Some refusals.Empty
     else (if is_quiet state.high state.greatest then Some (refusals.Quiet (fitting state.greatest)) else None)))
 
 -- after further bytes
@@ -154,19 +206,19 @@ abbrev pub SoundSays : Sound → List ℕ → List Event → Type 0
 SoundSays sound bytes events =
     SamplesSay sound_reading (sound_state sound) (samples_left sound bytes) events × (sound_fault sound bytes ≡ None)
 
--- a wire is a channel, by its number from 1 on, and open at the beginning
+-- a wire is a channel, by its number from 1 on, and nothing is heard of it at the beginning
 abbrev pub channel_of : ℕ → List ℕ → Option ℕ
 channel_of channels name =
     option_and_then (λ n. if nat_le 1 n && nat_le n channels then Some n else None) (number_of name)
 
-abbrev pub open_wire : ℕ → Channel
-open_wire number = record { number = number; level = Open }
+abbrev pub new_wire : ℕ → Channel
+new_wire number = record { number = number; heard = heard.Nothing }
 
 -- those of names, from this wire on; the first name of none is told
 abbrev pub wires_from : ℕ → ℕ → List (List ℕ) → Result (List Channel) Refusal
 wires_from wire channels [] = Ok []
 wires_from wire channels (name ∷ names) =
-    result_and_then (λ number. result_map (λ rest. open_wire number ∷ rest) (wires_from (wire + 1) channels names))
+    result_and_then (λ number. result_map (λ rest. new_wire number ∷ rest) (wires_from (wire + 1) channels names))
     (ok_or (channel_of channels name) (refusals.NoWire wire))
 
 abbrev pub wires_of : ℕ → List (List ℕ) → Result (List Channel) Refusal
@@ -178,13 +230,9 @@ IsNewSound how channels high names length sound =
     (result_map (begun_sound channels high) (wires_of channels names) ≡ Ok (sound_state sound))
     × (sound.begun.items ≡ []) × (sound.left ≡ length) × (sound.coding ≡ how) × IsNewTail length sound.tail
 
-abbrev pub levels_said : ℕ → List Channel → List Event
-levels_said wire [] = []
-levels_said wire (own ∷ rest) = events.Level wire own.level ∷ levels_said (wire + 1) rest
-
--- what is said before the first sample: how long a tick is, and the levels of the wires
+-- what is said before the first sample: how long a tick is, and which is the first
 abbrev pub sound_begins : Option ℕ → List Channel → Result (List Event) Refusal
-sound_begins rate wires = result_map (λ said. said ++ events.At 0 ∷ levels_said 0 wires) (rate_says rate)
+sound_begins rate wires = result_map (λ said. said ++ events.At FIRST_TICK ∷ []) (rate_says rate)
 
 -- events, unless something is wrong
 abbrev pub unless : Option Refusal → List Event → Result (List Event) Refusal

@@ -2,7 +2,9 @@
 ghost use Rattle.xb_samples.specs.Greatest.{MeasuresTheGreatest};
 ghost use Rattle.xb_samples.specs.Hysteresis.{HearsEachLevel};
 ghost use Rattle.xb_samples.specs.Turns.{TurnsAreTold};
-ghost use Rattle.std.specs.Prelude.{◌≡◌};
+ghost use Rattle.xb_samples.specs.Spikes.{SpikesTellLevels};
+ghost use Rattle.std.specs.Prelude.{◌≡◌, ◌^◌};
+ghost use Rattle.xb_samples.specs.declared.sound.TheConstants.{FIRST_TICK};
 ghost use Rattle.xb_samples.specs.declared.turns.TheConstants.{MOST_TURNS};
 
 /// Where samples differ from the values of their two levels by less than the thresholds do, what is heard of
@@ -23,7 +25,14 @@ pub fn turns_are_told()
     ensures { TurnsAreTold }
 {}
 
-/// How many turns of a sample of two bytes are counted.
+/// A spike after a sample at rest tells its level, whatever came before; samples that stay on one side from the first one
+/// on tell none.
+pub fn spikes_tell_levels()
+    ensures { SpikesTellLevels }
+{}
+
+/// How many turns of a sample of two bytes are counted, and the tick of the first samples of a sound.
 pub fn constants()
     ensures most_turns { MOST_TURNS ≡ 250 }
+    ensures first_tick { FIRST_TICK ≡ 2 ^ 62 }
 {}

@@ -17,6 +17,8 @@
 //!   greatest sample of the wires is at least three times the threshold.
 //! - `laws::each_level_is_heard`: two thresholds hear each level of a sound that is disturbed by less than
 //!   they differ.
+//! - `laws::spikes_tell_levels` (`Spikes`): the first edge of a wire is a spike after rest, or a step to the other
+//!   side; a level with which the sound begins is none.
 //! - `laws::the_greatest_is_measured`: the greatest sample that is known is that of all samples of the wires
 //!   (`Greatest`).
 #![tactic(auto)]

@@ -1,24 +1,41 @@
 // Sound: a contact on a sound card.
-ghost use Rattle.std.specs.Prelude.{◌≡◌, ◌≢◌, ◌<ℤ◌, ◌≤◌, ◌+◌, ◌++◌, ◌∷◌, [], ℕ, IfErr, IfOk, List, Ok, OnOk, Some, length, map, pos};
+ghost use Rattle.std.specs.Prelude.{◌≡◌, ◌≢◌, ◌<ℤ◌, ◌≤◌, ◌+◌, ◌-◌, ◌++◌, ◌∷◌, [], ℕ, IfErr, IfOk, List, Ok, OnOk, Some, length, map, pos};
 ghost use Rattle.std.specs.List.{list_any};
 ghost use Rattle.xb_contact.specs.Steps.{AddsAll, IsOnly, IsRefusedBy, result_and_then};
 ghost use Rattle.xb_contact.specs.declared.event.Event.{Event as Saying};
 ghost use Rattle.xb_samples.specs.Pieces.{RunsOver, after_piece, piece_events};
-ghost use Rattle.xb_samples.specs.Sounds.{IsNewSound, SoundSays, begun_after, change_said, changes_said, channel_of, end_fault, greatest_after, high_of, is_channel, levels_said, own_bytes, samples_after, sound_begins, sound_fault, sound_reading, sound_says, sound_state, turned, wire_after, wires_of};
+ghost use Rattle.xb_samples.specs.Sounds.{IsNewSound, SoundSays, begun_after, can_leave, changes_said, channel_of, edge_said, end_fault, greatest_after, heard_by, high_of, is_channel, level_in, own_bytes, rest_said, rests_said, samples_after, sound_begins, sound_fault, sound_reading, sound_says, sound_state, turned, wire_after, wires_of};
+ghost use Rattle.xb_samples.specs.declared.sound.TheConstants.{FIRST_TICK};
 ghost use Rattle.xb_samples.specs.Tails.{follows_more, left_after};
 
 use crate::bits::say_rate;
 use crate::tail::Tail;
-use crate::threshold::{Threshold, fitting, heard_level, high_of, is_quiet};
+use crate::threshold::{Threshold, fitting, heard_level, high_of, is_at_rest, is_quiet, side_of};
 use std::alloc::{AllocError, Global};
 use xb_contact::{Event, Level, Refusal, number_of, say};
 use xb_riff::Coding;
+
+// The tick of the first samples: there are ticks before it.
+const FIRST_TICK: u64 = 1 << 62;
+
+// What was heard of a wire.
+#[derive(Clone, Copy)]
+enum Heard {
+    // Nothing yet that an edge can leave.
+    Nothing,
+    // No edge yet, and samples at rest.
+    Rest,
+    // No edge yet, and since the first samples only such on the side of this level.
+    Side(Level),
+    // An edge to this level.
+    Level(Level),
+}
 
 // A wire that is a channel of the sound.
 #[derive(Clone, Copy)]
 struct Channel {
     number: u8,
-    level: Level,
+    heard: Heard,
 }
 
 // The channel that a wire is, by its number.
@@ -31,7 +48,7 @@ fn channel_of(name: &str, channels: u8) -> Option<u8>
     }
 }
 
-// The wires of these names, all open. The first name of none is told.
+// The wires of these names, of which nothing was heard. The first name of none is told.
 fn wires_of(alloc: Global, names: &[&str], channels: u8) -> Result<Vec<Channel>, Refusal>
     ensures said { IfOk result (λ wires.
         wires_of channels (map (λ name. name.now) names.now) ≡ Ok wires.items) }
@@ -41,9 +58,9 @@ fn wires_of(alloc: Global, names: &[&str], channels: u8) -> Result<Vec<Channel>,
     for (wire, name) in names.iter().enumerate() {
         match channel_of(name, channels) {
             Some(number) => {
-                let level = Level::Open;
+                let heard = Heard::Nothing;
                 wires
-                    .push(Channel { number, level })
+                    .push(Channel { number, heard })
                     .map_err(AllocError::from)?
             }
             None => return Err(Refusal::NoWire(wire)),
@@ -52,15 +69,63 @@ fn wires_of(alloc: Global, names: &[&str], channels: u8) -> Result<Vec<Channel>,
     Ok(wires)
 }
 
-// Says the levels of wires.
-fn say_levels(wires: &[Channel], events: &mut Vec<Event>) -> Result<(), Refusal>
-    ensures said { OnOk result (events.new.items ≡ events.old.items ++ levels_said 0 wires.now) }
+// The level of a wire after its edges.
+fn level_in(heard: Heard) -> Option<Level>
+    ensures { result ≡ level_in heard }
+{
+    match heard {
+        Heard::Level(level) => Some(level),
+        Heard::Nothing | Heard::Rest | Heard::Side(_) => None,
+    }
+}
+
+// Says that a wire rests, where it has no edge.
+fn say_rest(wire: usize, heard: Heard, events: &mut Vec<Event>) -> Result<(), Refusal>
+    ensures said { OnOk result (events.new.items ≡ events.old.items ++ rest_said wire (level_in heard)) }
+    ensures only { IfErr result (λ e. e ≡ Refusal.NoMemory) }
+{
+    match level_in(heard) {
+        Some(_) => Ok(()),
+        None => say(events, Event::Level(wire, Level::Open)),
+    }
+}
+
+// Says that the wires without an edge rest.
+fn say_rests(wires: &[Channel], events: &mut Vec<Event>) -> Result<(), Refusal>
+    ensures said { OnOk result (events.new.items ≡ events.old.items ++ rests_said 0 wires.now) }
     ensures only { IfErr result (λ e. e ≡ Refusal.NoMemory) }
 {
     for (i, wire) in wires.iter().enumerate() {
-        say(events, Event::Level(i, wire.level))?;
+        say_rest(i, wire.heard, events)?;
     }
     Ok(())
+}
+
+// Whether a sample on the side of a level is an edge to it: the wire was at rest, or on the other side.
+fn can_leave(heard: Heard, level: Level) -> bool
+    ensures { result ≡ can_leave heard level }
+{
+    match heard {
+        Heard::Nothing => false,
+        Heard::Rest => true,
+        Heard::Side(side) | Heard::Level(side) => side != level,
+    }
+}
+
+// What was heard of a wire after a sample.
+fn heard_by(high: i16, heard: Heard, sample: i16) -> Heard
+    requires { pos 0 <ℤ high }
+    ensures { result ≡ heard_by high heard sample }
+{
+    if let Heard::Level(was) = heard {
+        return Heard::Level(heard_level(-high, high, was, sample));
+    }
+    match side_of(high, sample) {
+        Some(level) if can_leave(heard, level) => Heard::Level(level),
+        Some(level) => Heard::Side(level),
+        None if is_at_rest(high, sample) => Heard::Rest,
+        None => heard,
+    }
 }
 
 // A wire after a sample of a channel.
@@ -68,33 +133,36 @@ fn wire_after(channel: u8, high: i16, sample: i16, wire: Channel) -> Channel
     requires { pos 0 <ℤ high }
     ensures { result ≡ wire_after channel high sample wire }
 {
-    let Channel { number, level } = wire;
+    let Channel { number, heard } = wire;
     if number != channel {
         return wire;
     }
     Channel {
         number,
-        level: heard_level(-high, high, level, sample),
+        heard: heard_by(high, heard, sample),
     }
 }
 
-// Says the level of a wire, if it is another one.
-fn say_change(
+// Says the edge of a wire, if it has one.
+fn say_edge(
     tick: u64,
     wire: usize,
-    was: Level,
-    level: Level,
+    was: Heard,
+    now: Heard,
     events: &mut Vec<Event>,
 ) -> Result<(), Refusal>
     ensures said { OnOk result
-        (events.new.items ≡ events.old.items ++ change_said tick wire was level) }
+        (events.new.items ≡ events.old.items ++ edge_said tick wire (level_in was) (level_in now)) }
     ensures only { IfErr result (λ e. e ≡ Refusal.NoMemory) }
 {
-    if was == level {
-        return Ok(());
+    let was = level_in(was);
+    match level_in(now) {
+        Some(level) if was != Some(level) => {
+            say(events, Event::At(tick))?;
+            say(events, Event::Edge(wire, level))
+        }
+        _ => Ok(()),
     }
-    say(events, Event::At(tick))?;
-    say(events, Event::Level(wire, level))
 }
 
 // All wires hear a sample of a channel.
@@ -114,7 +182,7 @@ fn hear_sample(
 {
     for (i, wire) in wires.iter_mut().enumerate() {
         let after = wire_after(channel, high, sample, *wire);
-        say_change(tick, i, wire.level, after.level, events)?;
+        say_edge(tick, i, wire.heard, after.heard, events)?;
         *wire = after;
     }
     Ok(())
@@ -145,7 +213,8 @@ fn greatest_after(channel: u8, wires: &[Channel], greatest: u16, sample: i16) ->
 }
 
 /// The reader of samples, each channel's in turn. The samples of all channels are a tick.
-/// A channel is closed from a threshold on, open from its opposite on, and between them as before; it begins open.
+/// A channel is closed from a threshold on, open from its opposite on, and between them as before. Each change is an edge;
+/// the first one leaves rest, or the other side. Before it the channel has no level.
 #[derive(Drop)]
 pub struct Sound {
     wires: Vec<Channel>,
@@ -155,6 +224,7 @@ pub struct Sound {
     // The channel of the next sample, from 1 on, and those of its bytes that have come.
     channel: u8,
     begun: Vec<u8>,
+    // How many ticks have gone by, counted on from `FIRST_TICK`.
     count: u64,
     // The greatest sample of the wires, whatever its sign.
     greatest: u16,
@@ -185,8 +255,7 @@ impl Sound {
     {
         let wires = wires_of(alloc, names, channels)?;
         say_rate(events, rate)?;
-        say(events, Event::At(0))?;
-        say_levels(&wires, events)?;
+        say(events, Event::At(FIRST_TICK))?;
         Ok(Sound {
             wires,
             coding,
@@ -194,7 +263,7 @@ impl Sound {
             threshold,
             channel: 1,
             begun: Vec::new(alloc),
-            count: 0,
+            count: FIRST_TICK,
             greatest: 0,
             left: length,
             tail: Tail::new(alloc, length),
@@ -337,7 +406,7 @@ impl Sound {
         if self.tail.is_more() {
             return Some(Refusal::MoreFollows);
         }
-        if self.count == 0 {
+        if self.count == FIRST_TICK {
             return Some(Refusal::Empty);
         }
         if is_quiet(self.threshold, self.greatest) {
@@ -346,7 +415,7 @@ impl Sound {
         None
     }
 
-    /// The end: the wires hold their levels up to where the samples go. It is refused where bytes are missing that the
+    /// The end: the wires hold their levels up to where the samples go, and one without an edge rests there. It is refused where bytes are missing that the
     /// head counts (`CutOff`), where more follows these than chunks (`MoreFollows`), where no tick has gone by
     /// (`Empty`), and where the greatest sample of the wires is under three times the threshold (`Quiet`).
     pub fn end(&self, events: &mut Vec<Event>) -> Result<(), Refusal>
@@ -356,14 +425,17 @@ impl Sound {
     {
         match self.fault() {
             Some(refusal) => Err(refusal),
-            None => say(events, Event::At(self.count)),
+            None => {
+                say(events, Event::At(self.count))?;
+                say_rests(&self.wires, events)
+            }
         }
     }
 
     /// How many ticks have gone by.
     pub fn count(&self) -> u64
-        ensures { result ≡ (sound_state self.now).count }
+        ensures { result ≡ (sound_state self.now).count - FIRST_TICK }
     {
-        self.count
+        self.count.saturating_sub(FIRST_TICK)
     }
 }

@@ -1,7 +1,7 @@
 // How loud a sample has to be.
 ghost use Rattle.std.specs.Prelude.{◌≡◌, ◌<ℤ◌, ◌≤◌, ◌↔◌, IfSome, IsSome, pos};
 ghost use Rattle.xb_samples.specs.Hysteresis.{IsHeard};
-ghost use Rattle.xb_samples.specs.Sounds.{fitting, high_of, is_quiet};
+ghost use Rattle.xb_samples.specs.Sounds.{fitting, high_of, is_at_rest, is_quiet, side_of};
 
 use std::marker::Model;
 use xb_contact::Level;
@@ -59,6 +59,27 @@ pub fn heard_level(low: i16, high: i16, was: Level, sample: i16) -> Level
     } else {
         was
     }
+}
+
+// On the side of which level a sample is, beyond the threshold or its opposite; `None` between them.
+pub(crate) fn side_of(high: i16, sample: i16) -> Option<Level>
+    requires { pos 0 <ℤ high }
+    ensures { result ≡ side_of high sample }
+{
+    if sample >= high {
+        Some(Level::Closed)
+    } else if sample <= -high {
+        Some(Level::Open)
+    } else {
+        None
+    }
+}
+
+// Whether a sample is at rest, under half of the threshold.
+pub(crate) fn is_at_rest(high: i16, sample: i16) -> bool
+    ensures { result ≡ is_at_rest high sample }
+{
+    2 * u32::from(sample.unsigned_abs()) < u32::from(high.unsigned_abs())
 }
 
 // Whether a greatest sample is quiet for a threshold.

@@ -1,8 +1,9 @@
 -- Laws of images on one line, and of items that stand on it.
-use Rattle.std.proofs.Common.{◌≡◌, ℕ, List, [], ◌∷◌, ◌++◌, fold, refl, sym, ap, ◌∙◌, subst, append_assoc}
+use Rattle.std.proofs.Common.{◌≡◌, ℕ, List, [], ◌∷◌, ◌++◌, fold, sym, subst}
 use mathlib.Core.List.{IsPrefix}
 use Rattle.std.specs.List.{AllByRecursion, flat_map}
 use Rattle.xb_model.specs.Image.{Machine, image_from}
+use Rattle.xb_model.proofs.Images.{image_from-append}
 
 -- what holds of two lists holds of both, one after the other
 pub both_all : {X : Type 0} (P : X → Type 0) (xs ys : List X) → AllByRecursion P xs → AllByRecursion P ys → AllByRecursion P (xs ++ ys)
@@ -15,18 +16,11 @@ flat_all P Q f each [] q = tt
 flat_all P Q f each (x ∷ xs) q = both_all P (f x) (flat_map f xs) (each x q.0) (flat_all P Q f each xs q.1)
 
 module _ {I O S : Type 0} (m : Machine I O S) where
-  -- what is sent for more items
-  pub image_from-append : (s : S) (xs ys : List I) → image_from m s (xs ++ ys) ≡ image_from m s xs ++ image_from m (fold m.next s xs) ys
-  image_from-append s [] ys = refl
-  image_from-append s (x ∷ xs) ys =
-      ap (λ zs. m.outs s x ++ zs) (image_from-append (m.next s x) xs ys)
-      ∙ sym (append_assoc (m.outs s x) (image_from m (m.next s x) xs) _)
-
   -- more items give more
   pub image_from-prefix : (s : S) (xs ys : List I) → IsPrefix xs ys → IsPrefix (image_from m s xs) (image_from m s ys)
   image_from-prefix s xs ys p =
       subst (λ zs. IsPrefix (image_from m s xs) (image_from m s zs)) p.1
-      (image_from m (fold m.next s xs) p.0, sym (image_from-append s xs p.0))
+      (image_from m (fold m.next s xs) p.0, sym (image_from-append m s xs p.0))
 
   -- what is sent for items of one line is on it
   pub image_from-on : (line : I → ℕ) (out_line : O → ℕ) → ((q : S) (x : I) → AllByRecursion (λ y. out_line y ≡ line x) (m.outs q x))

@@ -4,32 +4,30 @@ use Rattle.std.proofs.lemmas.List.{append-nil, drop_all, drop_more}
 use Rattle.xb_measured.specs.declared.heard.Heard.{Heard}
 use Rattle.xb_measured.specs.Figures.{figures_of}
 use Rattle.xb_measured.specs.Lines.{text_line, text_lines}
-use Rattle.xb_shown.specs.declared.rows.PlacedKey.{PlacedKey}
-use Rattle.xb_shown.specs.declared.rows.Row.{Row}
-use Rattle.xb_shown.specs.Rows.{placed_after, placed_at}
+use Rattle.xb_shown.specs.Keyings.{key_words, keys_words, row_from}
 
--- one key more in its row
-pub one-placed : (first n : ℕ) (before : Option Heard) (last : Option Row) (keys : List Heard) (key : Heard)
-    (so_far all : List PlacedKey) → n < length keys → get_or keys n key ≡ key
-    → so_far ++ placed_after first before last (drop n keys) ≡ all
-    → (so_far ++ placed_at first before last key ∷ [])
-    ++ placed_after first (Some key) (Some (placed_at first before last key).row) (drop (n + 1) keys) ≡ all
-unfolding placed_after
-one-placed first n before last keys key so_far all below is known =
-    append_assoc so_far (placed_at first before last key ∷ [])
-    (placed_after first (Some key) (Some (placed_at first before last key).row) (drop (n + 1) keys))
-    ∙ ap (λ (k : Heard). so_far ++ placed_after first before last (k ∷ drop (n + 1) keys)) (sym is)
-    ∙ ap (λ ks. so_far ++ placed_after first before last ks) (sym (drop_more keys n key below))
+-- what is said of one key more
+pub one-said : (n : ℕ) (before : Option Heard) (from : Option ℕ) (keys : List Heard) (key : Heard)
+    (so_far all : List (List ℕ)) → n < length keys → get_or keys n key ≡ key
+    → so_far ++ keys_words before from (drop n keys) ≡ all
+    → (so_far ++ key_words (row_from from (figures_of before key)) (figures_of before key))
+    ++ keys_words (Some key) (Some (row_from from (figures_of before key))) (drop (n + 1) keys) ≡ all
+unfolding keys_words
+one-said n before from keys key so_far all below is known =
+    append_assoc so_far (key_words (row_from from (figures_of before key)) (figures_of before key))
+    (keys_words (Some key) (Some (row_from from (figures_of before key))) (drop (n + 1) keys))
+    ∙ ap (λ (k : Heard). so_far ++ keys_words before from (k ∷ drop (n + 1) keys)) (sym is)
+    ∙ ap (λ ks. so_far ++ keys_words before from ks) (sym (drop_more keys n key below))
     ∙ known
 
 -- after the last key there are none
-pub none-placed : (first n : ℕ) (before : Option Heard) (last : Option Row) (keys : List Heard)
-    (so_far all : List PlacedKey) → length keys ≤ n
-    → so_far ++ placed_after first before last (drop n keys) ≡ all → so_far ≡ all
-unfolding placed_after
-none-placed first n before last keys so_far all enough known =
+pub none-said : (n : ℕ) (before : Option Heard) (from : Option ℕ) (keys : List Heard)
+    (so_far all : List (List ℕ)) → length keys ≤ n
+    → so_far ++ keys_words before from (drop n keys) ≡ all → so_far ≡ all
+unfolding keys_words
+none-said n before from keys so_far all enough known =
     sym (append-nil so_far)
-    ∙ ap (λ ks. so_far ++ placed_after first before last ks) (sym (drop_all n keys enough))
+    ∙ ap (λ ks. so_far ++ keys_words before from ks) (sym (drop_all n keys enough))
     ∙ known
 
 -- the line of one key more

@@ -1,29 +1,23 @@
 -- What stands over a keying.
-use Rattle.std.specs.Prelude.{ℕ, ◌+◌, List, [], ◌++◌, codes, decimal, Option, Some, None}
+use Rattle.std.specs.Prelude.{ℕ, List, [], ◌∷◌, ◌++◌, codes, decimal, Option, Some, None}
 use Rattle.std.specs.List.{flat_map}
 use Rattle.xb_measured.specs.declared.heard.Heard.{Heard}
 use Rattle.xb_measured.specs.Seconds.{seconds_text}
-use Rattle.xb_svg.specs.declared.look.Look.{Look}
-use Rattle.xb_svg.specs.Elements.{words_text}
 use Rattle.xb_measured.specs.DoubtLines.{began_ms}
 use Rattle.xb_measured.specs.Keyings.{digit_of}
-use Rattle.xb_shown.specs.declared.heading.TheConstants.{HEADING_DOWN, HEARD_RIGHT}
 use Rattle.xb_shown.specs.declared.heading.Title.{Title}
 use Rattle.xb_shown.specs.declared.heading.Title.TheVariants as title
-use Rattle.xb_shown.specs.declared.looks.TheConstants.{HEAD, RED_HEAD}
-use Rattle.xb_shown.specs.declared.places.TheConstants.{LEFT}
-use Rattle.xb_shown.specs.Places.{row_top}
 
 -- what keys are, which begin at so many ms
 abbrev pub entry_words : ℕ → ℕ → List ℕ
 entry_words number ms = codes "entry " ++ (decimal number ++ (codes " at " ++ (seconds_text ms ++ codes " s")))
 
-abbrev pub key_words : ℕ → List ℕ
-key_words ms = codes "key at " ++ (seconds_text ms ++ codes " s")
+abbrev pub loose_words : ℕ → List ℕ
+loose_words ms = codes "key at " ++ (seconds_text ms ++ codes " s")
 
 abbrev pub title_words : Title → ℕ → List ℕ
 title_words (title.Entry number) ms = entry_words number ms
-title_words title.Loose ms = key_words ms
+title_words title.Loose ms = loose_words ms
 
 -- the digits of keys, one after the other
 abbrev pub digit_text : Option ℕ → List ℕ
@@ -38,17 +32,5 @@ abbrev pub keyed_words : Title → List Heard → List ℕ
 keyed_words (title.Entry number) keys = number_words keys
 keyed_words title.Loose keys = codes "in no keying"
 
-abbrev pub keyed_look : Title → Look
-keyed_look (title.Entry number) = HEAD
-keyed_look title.Loose = RED_HEAD
-
--- over the row of this number
-abbrev pub title_text : ℕ → Title → ℕ → List ℕ
-title_text first title ms = words_text LEFT (row_top first + HEADING_DOWN) HEAD (title_words title ms)
-
-abbrev pub keyed_text : ℕ → Title → List Heard → List ℕ
-keyed_text first title keys =
-    words_text (LEFT + HEARD_RIGHT) (row_top first + HEADING_DOWN) (keyed_look title) (keyed_words title keys)
-
-abbrev pub heading_text : ℕ → Title → List Heard → List ℕ
-heading_text first title keys = title_text first title (began_ms keys) ++ keyed_text first title keys
+abbrev pub heading_words : Title → List Heard → List (List ℕ)
+heading_words title keys = title_words title (began_ms keys) ∷ keyed_words title keys ∷ []

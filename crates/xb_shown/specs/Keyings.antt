@@ -1,45 +1,61 @@
--- The picture of a keying.
-use Rattle.std.specs.Prelude.{ℕ, List, ◌++◌, Option}
+-- What a picture says of keys, one after the other.
+use Rattle.std.specs.Prelude.{ℕ, ◌+◌, ◌-◌, ◌^◌, ◌==◌, min, nat_le, if◌then◌else◌, Bool, List, [], ◌∷◌, ◌++◌, codes, decimal, Option, Some, None}
 use Rattle.std.specs.List.{flat_map}
+use Rattle.xb_measured.specs.declared.figures.Figures.{Figures}
 use Rattle.xb_measured.specs.declared.heard.Heard.{Heard}
 use Rattle.xb_measured.specs.declared.verdicts.Limit.{Limit}
-use Rattle.xb_measured.specs.Verdicts.{misses}
-use Rattle.xb_svg.specs.Elements.{end_text, frame_text}
+use Rattle.xb_measured.specs.declared.verdicts.Limit.TheVariants.{Gap}
+use Rattle.xb_measured.specs.Figures.{figures_of}
+use Rattle.xb_measured.specs.Meanings.{name_text}
+use Rattle.xb_measured.specs.Verdicts.{limit_word, misses}
 use Rattle.xb_shown.specs.declared.heading.Title.{Title}
-use Rattle.xb_shown.specs.declared.places.TheConstants.{WIDTH}
-use Rattle.xb_shown.specs.declared.rows.PlacedKey.{PlacedKey}
-use Rattle.xb_shown.specs.Bars.{bars_text, name_text, shade_text}
-use Rattle.xb_shown.specs.Ground.{ground_text}
-use Rattle.xb_shown.specs.Headings.{heading_text}
-use Rattle.xb_shown.specs.Misses.{misses_from}
-use Rattle.xb_shown.specs.Places.{row_top}
-use Rattle.xb_shown.specs.Rows.{placed_of, rows_to}
+use Rattle.xb_shown.specs.declared.places.TheConstants.{ROW_MS}
+use Rattle.xb_shown.specs.declared.rows.Row.{Row}
+use Rattle.xb_shown.specs.Headings.{heading_words}
 
--- the tones of a key that misses these limits, on the ground of the row that begins with it
-abbrev pub tones_text : PlacedKey → List Limit → List ℕ
-tones_text key limits = ground_text key ++ (shade_text key limits ++ bars_text key)
+-- when a key ends; counting stops at the greatest number that there is
+abbrev pub end_of : Figures → ℕ
+end_of figures = min (figures.start_ms + figures.length_ms) (2 ^ 64 - 1)
 
--- a key that misses these limits: its tones, its name, and they
-abbrev pub known_text : PlacedKey → List Limit → List ℕ
-known_text key limits = tones_text key limits ++ (name_text key ++ misses_from key 0 limits)
+-- when the row of a key begins: with the last row where the key ends within that, and else with the key
+abbrev pub row_from : Option ℕ → Figures → ℕ
+row_from None figures = figures.start_ms
+row_from (Some from) figures = if nat_le (end_of figures - from) ROW_MS then from else figures.start_ms
 
-abbrev pub key_text : PlacedKey → List ℕ
-key_text key = known_text key (misses key.figures)
+abbrev pub from_of : Option Row → Option ℕ
+from_of None = None
+from_of (Some row) = Some row.from
 
-abbrev pub keys_text : List PlacedKey → List ℕ
-keys_text placed = flat_map key_text placed
+abbrev pub leads : ℕ → Figures → Bool
+leads from figures = figures.start_ms == from
 
--- keys and what they are, from the row of this number on, by the last key before them
-abbrev pub part_text : ℕ → Title → Option Heard → List Heard → List ℕ
-part_text first title before keys = heading_text first title keys ++ keys_text (placed_of first before keys)
+abbrev pub length_words : ℕ → List ℕ
+length_words ms = decimal ms ++ codes " ms"
 
--- a picture of them alone
-abbrev pub paper_text : ℕ → List ℕ
-paper_text rows = frame_text WIDTH (row_top rows)
+-- how long the gap before a key is, where it stands in the same row
+abbrev pub gap_words : ℕ → Figures → Option ℕ → List (List ℕ)
+gap_words from figures None = []
+gap_words from figures (Some gap) = if leads from figures then [] else length_words gap ∷ []
 
-abbrev pub drawn_text : ℕ → List ℕ → List ℕ
-drawn_text rows drawn = paper_text rows ++ (drawn ++ end_text)
+-- a limit that a key misses
+abbrev pub missed_words : ℕ → Figures → Limit → List (List ℕ)
+missed_words from figures Gap = limit_word Gap ∷ gap_words from figures figures.gap_ms
+missed_words from figures limit = limit_word limit ∷ []
 
-abbrev pub keying_text : Title → Option Heard → List Heard → List ℕ
-keying_text title before keys =
-    drawn_text (rows_to 0 (placed_of 0 before keys)) (part_text 0 title before keys)
+-- its name, how long it lasts, and all limits that it misses
+abbrev pub name_words : Figures → List (List ℕ)
+name_words figures = name_text figures.meaning ∷ length_words figures.length_ms ∷ []
+
+abbrev pub key_words : ℕ → Figures → List (List ℕ)
+key_words from figures = name_words figures ++ flat_map (missed_words from figures) (misses figures)
+
+-- keys by the last one before them, and by the beginning of the last row
+unfoldable pub keys_words : Option Heard → Option ℕ → List Heard → List (List ℕ)
+keys_words before from [] = []
+keys_words before from (key ∷ keys) =
+    key_words (row_from from (figures_of before key)) (figures_of before key)
+    ++ keys_words (Some key) (Some (row_from from (figures_of before key))) keys
+
+-- keys and what they are
+abbrev pub part_words : Title → Option Heard → List Heard → List (List ℕ)
+part_words title before keys = heading_words title keys ++ keys_words before None keys

@@ -1,10 +1,4 @@
-pub mod Places
-pub mod Rows
-pub mod Ground
-pub mod Bars
-pub mod Misses
 pub mod Headings
 pub mod Keyings
 pub mod Pictures
 pub mod Sections
-pub mod Pages

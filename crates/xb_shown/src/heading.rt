@@ -1,13 +1,16 @@
 // What stands over a keying.
 ghost use Rattle.std.specs.Prelude.{◌≡◌, ◌++◌, IfOk, OnOk, string_bytes};
-ghost use Rattle.xb_shown.specs.Headings.{digit_text, entry_words, heading_text, key_words, keyed_look, keyed_text, keyed_words, number_words, title_text, title_words};
+ghost use Rattle.xb_svg.specs.Drawings.{says};
+ghost use Rattle.xb_shown.specs.Headings.{digit_text, entry_words, heading_words, keyed_words};
+ghost use Rattle.xb_shown.specs.Headings.{loose_words, number_words, title_words};
 
 use crate::looks::{HEAD, RED_HEAD};
 use crate::places::{LEFT, row_top};
+use crate::sheet::put_text;
 use std::alloc::{AllocError, Global};
 use xb_measured::{NamedKey, began_ms, seconds_text};
 use xb_model::Digit;
-use xb_svg::{Look, push_text};
+use xb_svg::{Element, Look};
 
 /// What keys are.
 #[derive(Clone, Copy, Debug, PartialEq, Eq)]
@@ -32,8 +35,8 @@ fn entry_words(alloc: Global, number: usize, ms: u64) -> Result<String, AllocErr
 }
 
 // A key that begins at so many ms, in words.
-fn key_words(alloc: Global, ms: u64) -> Result<String, AllocError>
-    ensures { IfOk result (λ text. string_bytes text ≡ key_words ms) }
+fn loose_words(alloc: Global, ms: u64) -> Result<String, AllocError>
+    ensures { IfOk result (λ text. string_bytes text ≡ loose_words ms) }
 {
     let seconds = seconds_text(alloc, ms)?;
     format!(in alloc; "key at {seconds} s")
@@ -45,7 +48,7 @@ pub(crate) fn title_words(alloc: Global, title: Title, ms: u64) -> Result<String
 {
     match title {
         Title::Entry(number) => entry_words(alloc, number, ms),
-        Title::Loose => key_words(alloc, ms),
+        Title::Loose => loose_words(alloc, ms),
     }
 }
 
@@ -85,54 +88,27 @@ pub(crate) fn keyed_words(
 }
 
 // How it looks.
-fn keyed_look(title: Title) -> Look
-    ensures { result ≡ keyed_look title }
-{
+fn keyed_look(title: Title) -> Look {
     match title {
         Title::Entry(_) => HEAD,
         Title::Loose => RED_HEAD,
     }
 }
 
-// Puts what keys are after the text.
-fn push_title(
+// Writes what stands over keys, whose first row has this number.
+pub(crate) fn put_heading(
     alloc: Global,
-    out: &mut String,
-    first: u32,
-    title: Title,
-    ms: u64,
-) -> Result<(), AllocError>
-    ensures { OnOk result (string_bytes out.new ≡ string_bytes out.old ++ title_text first title ms) }
-{
-    let words = title_words(alloc, title, ms)?;
-    push_text(out, LEFT, row_top(first) + HEADING_DOWN, HEAD, &words)
-}
-
-// Puts what was heard after the text.
-fn push_keyed(
-    alloc: Global,
-    out: &mut String,
+    out: &mut Vec<Element>,
     first: u32,
     title: Title,
     keys: &[NamedKey],
 ) -> Result<(), AllocError>
-    ensures { OnOk result (string_bytes out.new ≡ string_bytes out.old ++ keyed_text first title keys.now) }
+    ensures { OnOk result (says out.new.items
+        ≡ says out.old.items ++ heading_words title keys.now) }
 {
-    let words = keyed_words(alloc, title, keys)?;
     let y = row_top(first) + HEADING_DOWN;
-    push_text(out, LEFT + HEARD_RIGHT, y, keyed_look(title), &words)
-}
-
-/// Puts what stands over keys, whose first row has this number, after the text. `Err` says that memory ran out.
-pub(crate) fn push_heading(
-    alloc: Global,
-    out: &mut String,
-    first: u32,
-    title: Title,
-    keys: &[NamedKey],
-) -> Result<(), AllocError>
-    ensures { OnOk result (string_bytes out.new ≡ string_bytes out.old ++ heading_text first title keys.now) }
-{
-    push_title(alloc, out, first, title, began_ms(keys))?;
-    push_keyed(alloc, out, first, title, keys)
+    let words = title_words(alloc, title, began_ms(keys))?;
+    put_text(out, LEFT, y, HEAD, words)?;
+    let keyed = keyed_words(alloc, title, keys)?;
+    put_text(out, LEFT + HEARD_RIGHT, y, keyed_look(title), keyed)
 }

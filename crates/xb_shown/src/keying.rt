@@ -1,98 +1,69 @@
-// The picture of a keying.
-ghost use Rattle.std.specs.Prelude.{◌≡◌, ◌++◌, IfOk, OnOk, string_bytes};
-ghost use Rattle.xb_shown.specs.Keyings.{drawn_text, key_text, keying_text, keys_text, known_text, paper_text, part_text, tones_text};
-ghost use Rattle.xb_shown.specs.Rows.{placed_of, rows_to};
+// What is drawn of a keying.
+ghost use Rattle.std.specs.Prelude.{◌≡◌, ◌++◌, None, OnOk, string_bytes};
+ghost use Rattle.xb_svg.specs.Drawings.{PutsBy, drawing_text, says};
+ghost use Rattle.xb_shown.specs.Keyings.{key_words, keys_words, part_words};
 
-use crate::bars::{push_bars, push_name, push_shade};
-use crate::ground::push_ground;
-use crate::heading::{Title, push_heading};
-use crate::misses::push_misses;
+use crate::bars::{put_name, put_tones};
+use crate::ground::put_ground;
+use crate::heading::put_heading;
+use crate::misses::put_misses;
+use crate::part::Part;
 use crate::places::{WIDTH, row_top};
-use crate::rows::{PlacedKey, placed_of, rows_to};
+use crate::rows::{PlacedKey, row_below, row_for};
 use std::alloc::{AllocError, Global};
-use xb_measured::{Heard, Limit, NamedKey, misses};
-use xb_svg::{push_end, push_frame};
+use xb_measured::{Heard, NamedKey, figures_of, misses};
+use xb_svg::{Element, push_drawing};
 
-// Puts the tones of a key that misses these limits after the text, on the ground of its row where that begins with it.
-fn push_tones(
-    alloc: Global,
-    out: &mut String,
-    key: &PlacedKey,
-    limits: &[Limit],
-) -> Result<(), AllocError>
-    ensures { OnOk result (string_bytes out.new ≡ string_bytes out.old ++ tones_text key.now limits.now) }
-{
-    push_ground(alloc, out, key)?;
-    push_shade(out, key, limits)?;
-    push_bars(out, key)
-}
-
-// Puts a key that misses these limits after the text.
-fn push_known(
-    alloc: Global,
-    out: &mut String,
-    key: &PlacedKey,
-    limits: &[Limit],
-) -> Result<(), AllocError>
-    ensures { OnOk result (string_bytes out.new ≡ string_bytes out.old ++ known_text key.now limits.now) }
-{
-    push_tones(alloc, out, key, limits)?;
-    push_name(alloc, out, key)?;
-    push_misses(alloc, out, key, limits)
-}
-
-// Puts a key after the text.
-fn push_key(alloc: Global, out: &mut String, key: &PlacedKey) -> Result<(), AllocError>
-    ensures { OnOk result (string_bytes out.new ≡ string_bytes out.old ++ key_text key.now) }
+// Draws a key, on the ground of its row where that begins with it.
+fn put_key(alloc: Global, out: &mut Vec<Element>, key: &PlacedKey) -> Result<(), AllocError>
+    ensures { OnOk result (says out.new.items
+        ≡ says out.old.items ++ key_words key.now.row.from key.now.figures) }
 {
     let limits = misses(alloc, &key.figures)?;
-    push_known(alloc, out, key, &limits)
+    put_ground(alloc, out, key)?;
+    put_tones(out, key, &limits)?;
+    put_name(alloc, out, key)?;
+    put_misses(alloc, out, key, &limits)
 }
 
-// Puts keys after the text.
-fn push_keys(alloc: Global, out: &mut String, placed: &[PlacedKey]) -> Result<(), AllocError>
-    ensures { OnOk result (string_bytes out.new ≡ string_bytes out.old ++ keys_text placed.now) }
-{
-    for key in placed {
-        push_key(alloc, out, key)?;
-    }
-    Ok(())
-}
-
-/// Puts keys and what they are after the text, as a part of a picture from the row of this number on, and returns the
-/// number of the first row below them. `Err` says that memory ran out.
-pub(crate) fn push_rows(
+// Draws keys, by the last one before them, from the row of this number on, and returns the number of the first row below
+// them.
+fn put_keys(
     alloc: Global,
-    out: &mut String,
+    out: &mut Vec<Element>,
     first: u32,
-    title: Title,
     before: Option<Heard>,
     keys: &[NamedKey],
 ) -> Result<u32, AllocError>
-    ensures text { OnOk result (string_bytes out.new
-        ≡ string_bytes out.old ++ part_text first title before keys.now) }
-    ensures rows { IfOk result (λ below. below ≡ rows_to first (placed_of first before keys.now)) }
+    ensures { OnOk result (says out.new.items
+        ≡ says out.old.items ++ keys_words before None keys.now) }
 {
-    let placed = placed_of(alloc, first, before, keys)?;
-    push_heading(alloc, out, first, title, keys)?;
-    push_keys(alloc, out, &placed)?;
-    Ok(rows_to(first, &placed))
+    let mut last_key = before;
+    let mut last_row = None;
+    for key in keys {
+        let heard = key.heard();
+        let figures = figures_of(last_key, heard);
+        let row = row_for(first, last_row, &figures);
+        put_key(alloc, out, &PlacedKey { figures, row })?;
+        last_key = Some(heard);
+        last_row = Some(row);
+    }
+    Ok(row_below(first, last_row))
 }
 
-// Puts the beginning of a picture with so many rows after the text.
-fn push_paper(out: &mut String, rows: u32) -> Result<(), AllocError>
-    ensures { OnOk result (string_bytes out.new ≡ string_bytes out.old ++ paper_text rows) }
+/// Draws keys and what they are, as a part of a picture from the row of this number on, and returns the number of the
+/// first row below them. `Err` says that memory ran out.
+pub(crate) fn put_part(
+    alloc: Global,
+    out: &mut Vec<Element>,
+    first: u32,
+    part: &Part<'_>,
+) -> Result<u32, AllocError>
+    ensures { OnOk result (says out.new.items
+        ≡ says out.old.items ++ part_words part.now.title part.now.before part.now.keys.now) }
 {
-    push_frame(out, WIDTH, row_top(rows))
-}
-
-// Puts a picture with so many rows after the text, which are drawn so.
-fn push_drawn(out: &mut String, rows: u32, drawn: &str) -> Result<(), AllocError>
-    ensures { OnOk result (string_bytes out.new ≡ string_bytes out.old ++ drawn_text rows drawn.now) }
-{
-    push_paper(out, rows)?;
-    out.push_str(drawn)?;
-    push_end(out)
+    put_heading(alloc, out, first, part.title, part.keys)?;
+    put_keys(alloc, out, first, part.before, part.keys)
 }
 
 /// Puts a picture of keys, and of what they are, after the text, by the last key before them: an SVG element. `Err` says
@@ -100,13 +71,13 @@ fn push_drawn(out: &mut String, rows: u32, drawn: &str) -> Result<(), AllocError
 pub(crate) fn push_keying(
     alloc: Global,
     out: &mut String,
-    title: Title,
-    before: Option<Heard>,
-    keys: &[NamedKey],
+    part: &Part<'_>,
 ) -> Result<(), AllocError>
-    ensures { OnOk result (string_bytes out.new ≡ string_bytes out.old ++ keying_text title before keys.now) }
+    ensures { OnOk result (PutsBy
+        (λ looks. drawing_text looks (part_words part.now.title part.now.before part.now.keys.now))
+        (string_bytes out.old) (string_bytes out.new)) }
 {
-    let mut drawn = String::new(alloc);
-    let rows = push_rows(alloc, &mut drawn, 0, title, before, keys)?;
-    push_drawn(out, rows, &drawn)
+    let mut drawn = Vec::new(alloc);
+    let rows = put_part(alloc, &mut drawn, 0, part)?;
+    push_drawing(out, WIDTH, row_top(rows), &drawn)
 }

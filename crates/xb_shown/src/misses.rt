@@ -1,14 +1,18 @@
 // What a key misses, below its name.
-ghost use Rattle.std.specs.Prelude.{◌≡◌, ◌++◌, OnOk, string_bytes};
-ghost use Rattle.xb_shown.specs.Misses.{before_place, gap_length_text, gap_shade_text, gap_text, gap_words_text, miss_text, misses_from, word_text};
+ghost use Rattle.std.specs.Prelude.{◌≡◌, ◌++◌, ◌∷◌, [], OnOk};
+ghost use Rattle.std.specs.List.{flat_map};
+ghost use Rattle.xb_measured.specs.Verdicts.{limit_word};
+ghost use Rattle.xb_svg.specs.Drawings.{says};
+ghost use Rattle.xb_shown.specs.Keyings.{gap_words, length_words, missed_words};
 
 use crate::bars::{begin_place, length_words, middle_place};
 use crate::looks::MISSED;
 use crate::places::{AXIS, LANE, middle_of, place_of, row_top};
 use crate::rows::{PlacedKey, leads};
+use crate::sheet::{put_band, put_text};
 use std::alloc::{AllocError, Global};
 use xb_measured::Limit;
-use xb_svg::{Ink, push_band, push_text};
+use xb_svg::{Element, Ink};
 
 // How far below the axis the first limit stands that is missed, and how far each below the one before.
 const FIRST_DOWN: u64 = 328;
@@ -23,100 +27,88 @@ const GAP_DOWN: u64 = 272;
 
 const GAP_SHADE: u64 = 6 * LANE;
 
-// Puts the word of a limit that a key misses after the text, below so many others.
-fn push_word(
-    out: &mut String,
+// Writes the word of a limit that a key misses, below so many others.
+fn put_word(
+    alloc: Global,
+    out: &mut Vec<Element>,
     key: &PlacedKey,
     above: usize,
     limit: Limit,
 ) -> Result<(), AllocError>
-    ensures { OnOk result (string_bytes out.new ≡ string_bytes out.old ++ word_text key.now above limit) }
+    ensures { OnOk result (says out.new.items ≡ says out.old.items ++ limit_word limit ∷ []) }
 {
-    let y = row_top(key.row.number)
-        + AXIS
-        + FIRST_DOWN
-        + NEXT_DOWN * (above as u64).min(MOST_ABOVE);
-    push_text(out, middle_place(key), y, MISSED, limit.word())
+    let down = NEXT_DOWN * (above as u64).min(MOST_ABOVE);
+    let y = row_top(key.row.number) + AXIS + FIRST_DOWN + down;
+    let word = String::from_str(alloc, limit.word())?;
+    put_text(out, middle_place(key), y, MISSED, word)
 }
 
-// Where the key before this one ends.
-fn before_place(key: &PlacedKey, gap: u64) -> u64
-    ensures { result ≡ before_place key.now gap }
-{
-    place_of(key.row.from, key.figures.start_ms.saturating_sub(gap))
-}
-
-// Puts the shade of the gap before a key after the text.
-fn push_gap_shade(out: &mut String, key: &PlacedKey, gap: u64) -> Result<(), AllocError>
-    ensures { OnOk result (string_bytes out.new ≡ string_bytes out.old ++ gap_shade_text key.now gap) }
-{
-    let from = before_place(key, gap);
-    let y = (row_top(key.row.number) + AXIS).saturating_sub(GAP_SHADE);
-    let width = begin_place(key).saturating_sub(from);
-    push_band(out, from, y, width, GAP_SHADE, Ink::PaleRed)
-}
-
-// Puts the length of the gap before a key after the text.
-fn push_gap_length(
+// Draws the gap before a key, and writes how long it is.
+fn put_gap(
     alloc: Global,
-    out: &mut String,
+    out: &mut Vec<Element>,
     key: &PlacedKey,
     gap: u64,
 ) -> Result<(), AllocError>
-    ensures { OnOk result (string_bytes out.new ≡ string_bytes out.old ++ gap_length_text key.now gap) }
+    ensures { OnOk result (says out.new.items ≡ says out.old.items ++ length_words gap ∷ []) }
 {
+    let from = place_of(key.row.from, key.figures.start_ms.saturating_sub(gap));
+    let to = begin_place(key);
+    let axis = row_top(key.row.number) + AXIS;
+    let y = axis.saturating_sub(GAP_SHADE);
+    put_band(
+        out,
+        from,
+        y,
+        to.saturating_sub(from),
+        GAP_SHADE,
+        Ink::PaleRed,
+    )?;
     let words = length_words(alloc, gap)?;
-    let x = middle_of(before_place(key, gap), begin_place(key));
-    let y = row_top(key.row.number) + AXIS + GAP_DOWN;
-    push_text(out, x, y, MISSED, &words)
+    put_text(out, middle_of(from, to), axis + GAP_DOWN, MISSED, words)
 }
 
-// Puts the gap before a key, and its length, after the text.
-fn push_gap(alloc: Global, out: &mut String, key: &PlacedKey, gap: u64) -> Result<(), AllocError>
-    ensures { OnOk result (string_bytes out.new ≡ string_bytes out.old ++ gap_words_text key.now gap) }
-{
-    push_gap_shade(out, key, gap)?;
-    push_gap_length(alloc, out, key, gap)
-}
-
-// Puts the gap before a key after the text, where it stands in the same row.
-fn push_gap_in_row(alloc: Global, out: &mut String, key: &PlacedKey) -> Result<(), AllocError>
-    ensures { OnOk result (string_bytes out.new ≡ string_bytes out.old ++ gap_text key.now) }
+// Draws the gap before a key, where it stands in the same row.
+fn put_gap_in_row(alloc: Global, out: &mut Vec<Element>, key: &PlacedKey) -> Result<(), AllocError>
+    ensures { OnOk result (says out.new.items ≡ says out.old.items
+        ++ gap_words key.now.row.from key.now.figures key.now.figures.gap_ms) }
 {
     match key.figures.gap_ms {
-        Some(gap) if !leads(key) => push_gap(alloc, out, key, gap),
+        Some(gap) if !leads(key) => put_gap(alloc, out, key, gap),
         _ => Ok(()),
     }
 }
 
-// Puts a limit that a key misses after the text, below so many others.
-fn push_miss(
+// Writes a limit that a key misses, below so many others.
+fn put_miss(
     alloc: Global,
-    out: &mut String,
+    out: &mut Vec<Element>,
     key: &PlacedKey,
     above: usize,
     limit: Limit,
 ) -> Result<(), AllocError>
-    ensures { OnOk result (string_bytes out.new ≡ string_bytes out.old ++ miss_text key.now above limit) }
+    ensures { OnOk result (says out.new.items ≡ says out.old.items
+        ++ missed_words key.now.row.from key.now.figures limit) }
 {
-    push_word(out, key, above, limit)?;
+    put_word(alloc, out, key, above, limit)?;
     match limit {
-        Limit::Gap => push_gap_in_row(alloc, out, key),
+        Limit::Gap => put_gap_in_row(alloc, out, key),
         _ => Ok(()),
     }
 }
 
-/// Puts the limits that a key misses after the text, one below the other. `Err` says that memory ran out.
-pub(crate) fn push_misses(
+// Writes the limits that a key misses, one below the other.
+pub(crate) fn put_misses(
     alloc: Global,
-    out: &mut String,
+    out: &mut Vec<Element>,
     key: &PlacedKey,
     limits: &[Limit],
 ) -> Result<(), AllocError>
-    ensures { OnOk result (string_bytes out.new ≡ string_bytes out.old ++ misses_from key.now 0 limits.now) }
+    ensures { OnOk result (says out.new.items ≡ says out.old.items
+        ++ flat_map (missed_words key.now.row.from key.now.figures) limits.now) }
 {
     for (index, limit) in limits.iter().enumerate() {
-        push_miss(alloc, out, key, index, *limit)?;
+        put_miss(alloc, out, key, index, *limit)?;
     }
     Ok(())
 }

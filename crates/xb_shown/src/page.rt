@@ -1,10 +1,14 @@
 // A page in HTML with a section for each keying.
 ghost use Rattle.std.specs.Prelude.{◌≡◌, ◌++◌, IfOk, OnOk, string_bytes};
 ghost use Rattle.xb_measured.specs.Lines.{text_lines};
-ghost use Rattle.xb_shown.specs.Sections.{end_text, figures_text, lines_text, opening_text, section_text, start_text, told_text, told_words};
+ghost use Rattle.xb_svg.specs.Drawings.{PutsBy};
+ghost use Rattle.xb_shown.specs.Pictures.{part_in};
+ghost use Rattle.xb_shown.specs.Sections.{end_text, figures_text, lines_text, opening_text, section_text};
+ghost use Rattle.xb_shown.specs.Sections.{start_text, told_text, told_words};
 
 use crate::heading::{Title, keyed_words, title_words};
 use crate::keying::push_keying;
+use crate::part::Part;
 use std::alloc::{AllocError, Global};
 use xb_measured::{Heard, NamedKey, began_ms, doubts_text, figures_of, text_line};
 use xb_svg::push_escaped;
@@ -95,34 +99,24 @@ fn push_lines(out: &mut String, lines: &str, told: &str) -> Result<(), AllocErro
 }
 
 // Puts the lines of keys, and what is told of them, after the text.
-fn push_figures(
-    alloc: Global,
-    out: &mut String,
-    title: Title,
-    before: Option<Heard>,
-    keys: &[NamedKey],
-) -> Result<(), AllocError>
-    ensures { OnOk result (string_bytes out.new ≡ string_bytes out.old ++ figures_text title before keys.now) }
+fn push_figures(alloc: Global, out: &mut String, part: &Part<'_>) -> Result<(), AllocError>
+    ensures { OnOk result (string_bytes out.new
+        ≡ string_bytes out.old ++ figures_text part.now.title part.now.before part.now.keys.now) }
 {
-    let lines = lines_of(alloc, before, keys)?;
-    let told = told_words(alloc, title, keys)?;
+    let lines = lines_of(alloc, part.before, part.keys)?;
+    let told = told_words(alloc, part.title, part.keys)?;
     push_lines(out, &lines, &told)
 }
 
 /// Puts the section of keys and of what they are after the text, by the last key before them: a heading, the picture, the
 /// line of each key, and what is doubtful of an entry. `Err` says that memory ran out.
-pub(crate) fn push_part(
-    alloc: Global,
-    out: &mut String,
-    title: Title,
-    before: Option<Heard>,
-    keys: &[NamedKey],
-) -> Result<(), AllocError>
-    ensures { OnOk result (string_bytes out.new ≡ string_bytes out.old ++ section_text title before keys.now) }
+pub(crate) fn push_part(alloc: Global, out: &mut String, part: &Part<'_>) -> Result<(), AllocError>
+    ensures { OnOk result (PutsBy (λ looks. section_text looks (part_in part.now))
+        (string_bytes out.old) (string_bytes out.new)) }
 {
-    push_opening(alloc, out, title, keys)?;
-    push_keying(alloc, out, title, before, keys)?;
-    push_figures(alloc, out, title, before, keys)
+    push_opening(alloc, out, part.title, part.keys)?;
+    push_keying(alloc, out, part)?;
+    push_figures(alloc, out, part)
 }
 
 /// Puts what stands after the sections of a page after the text. `Err` says that memory ran out.

@@ -1,6 +1,5 @@
 // Where things stand in a picture, in its units.
-ghost use Rattle.std.specs.Prelude.{◌≡◌};
-ghost use Rattle.xb_shown.specs.Places.{bar_height, lane_foot, middle_of, place_of, row_top};
+ghost use Rattle.std.specs.Prelude.{◌<◌, ◌^◌};
 
 /// How many ms of sound a row has.
 pub const ROW_MS: u64 = 1_800;
@@ -39,38 +38,30 @@ pub(crate) const TENTHS_PER_UNIT: u32 = 4;
 pub(crate) const MOST_BAR: u32 = 102;
 
 // Where this time stands in a row that begins at another.
-pub(crate) fn place_of(from: u64, ms: u64) -> u64
-    ensures { result ≡ place_of from ms }
-{
+pub(crate) fn place_of(from: u64, ms: u64) -> u64 {
     LEFT + UNITS_PER_MS * ms.saturating_sub(from).min(ROW_MS)
 }
 
 // The middle between two places.
-pub(crate) fn middle_of(left: u64, right: u64) -> u64
-    ensures { result ≡ middle_of left right }
-{
+pub(crate) fn middle_of(left: u64, right: u64) -> u64 {
     left / 2 + right / 2
 }
 
 // Where the row of this number begins, from the top.
 pub(crate) fn row_top(number: u32) -> u64
-    ensures { result ≡ row_top number }
+    ensures { result < 2 ^ 43 }
 {
     ROW_HEIGHT * u64::from(number)
 }
 
 // Where the lane of a frequency ends in the row of this number.
-pub(crate) fn lane_foot(number: u32, hz: u16) -> u64
-    ensures { result ≡ lane_foot number hz }
-{
+pub(crate) fn lane_foot(number: u32, hz: u16) -> u64 {
     let below = LANE * u64::from(HIGHEST_HZ.saturating_sub(hz)) / LANE_HZ;
     row_top(number) + LANES_TOP + LANE + below
 }
 
 // How high the bar of a tone is that has so many tenths of a dB.
-pub(crate) fn bar_height(tenths: u32) -> u64
-    ensures { result ≡ bar_height tenths }
-{
+pub(crate) fn bar_height(tenths: u32) -> u64 {
     let stronger = tenths.saturating_sub(FAINTEST) / TENTHS_PER_UNIT;
     u64::from((LEAST_BAR + stronger).min(MOST_BAR))
 }

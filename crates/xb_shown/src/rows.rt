@@ -1,10 +1,9 @@
 // The rows of a keying, and which key stands in which.
-ghost use Rattle.std.specs.Prelude.{◌≡◌, IfOk};
-ghost use Rattle.xb_shown.specs.Rows.{end_of, fits, leads, next_number, placed_of, row_for, rows_to};
+ghost use Rattle.std.specs.Prelude.{◌≡◌};
+ghost use Rattle.xb_shown.specs.Keyings.{end_of, from_of, leads, row_from};
 
 use crate::places::ROW_MS;
-use std::alloc::{AllocError, Global};
-use xb_measured::{Figures, Heard, NamedKey, figures_of};
+use xb_measured::Figures;
 
 /// A row of a picture.
 #[derive(Clone, Copy, Debug, PartialEq, Eq)]
@@ -31,23 +30,9 @@ pub(crate) fn end_of(figures: &Figures) -> u64
     figures.start_ms.saturating_add(figures.length_ms)
 }
 
-// Whether a key ends within a row.
-fn fits(row: Row, figures: &Figures) -> bool
-    ensures { result ≡ fits row figures.now }
-{
-    end_of(figures).saturating_sub(row.from) <= ROW_MS
-}
-
-// The number of the row below that of this one; counting stops at the greatest number that there is.
-fn next_number(number: u32) -> u32
-    ensures { result ≡ next_number number }
-{
-    number.saturating_add(1)
-}
-
-// The row of a key: the last one where it fits, or a new one that begins with it.
-fn row_for(first: u32, last: Option<Row>, figures: &Figures) -> Row
-    ensures { result ≡ row_for first last figures.now }
+// The row of a key: the last one where it ends within that, or a new one that begins with it. The first has this number.
+pub(crate) fn row_for(first: u32, last: Option<Row>, figures: &Figures) -> Row
+    ensures { result.from ≡ row_from (from_of last) figures.now }
 {
     let from = figures.start_ms;
     match last {
@@ -56,11 +41,11 @@ fn row_for(first: u32, last: Option<Row>, figures: &Figures) -> Row
             from,
         },
         Some(row) => {
-            if fits(row, figures) {
+            if end_of(figures).saturating_sub(row.from) <= ROW_MS {
                 row
             } else {
                 Row {
-                    number: next_number(row.number),
+                    number: row.number.saturating_add(1),
                     from,
                 }
             }
@@ -68,43 +53,17 @@ fn row_for(first: u32, last: Option<Row>, figures: &Figures) -> Row
     }
 }
 
-/// The keys of a keying in their rows, of which the first has this number, by the last key before them. `Err` says that
-/// memory ran out.
-pub(crate) fn placed_of(
-    alloc: Global,
-    first: u32,
-    before: Option<Heard>,
-    keys: &[NamedKey],
-) -> Result<Vec<PlacedKey>, AllocError>
-    ensures { IfOk result (λ placed. placed.items ≡ placed_of first before keys.now) }
-{
-    let mut placed = Vec::new(alloc);
-    let mut last_key = before;
-    let mut last_row = None;
-    for key in keys {
-        let heard = key.heard();
-        let figures = figures_of(last_key, heard);
-        let row = row_for(first, last_row, &figures);
-        placed.push(PlacedKey { figures, row })?;
-        last_key = Some(heard);
-        last_row = Some(row);
-    }
-    Ok(placed)
-}
-
 // Whether a row begins with this key.
 pub(crate) fn leads(key: &PlacedKey) -> bool
-    ensures { result ≡ leads key.now }
+    ensures { result ≡ leads key.now.row.from key.now.figures }
 {
     key.figures.start_ms == key.row.from
 }
 
-// The number of the first row below these keys, whose first one has this number.
-pub(crate) fn rows_to(first: u32, placed: &[PlacedKey]) -> u32
-    ensures { result ≡ rows_to first placed.now }
-{
-    match placed.last() {
-        Some(key) => next_number(key.row.number),
-        None => next_number(first),
+// The number of the first row below the last one, or of the second one where there is none.
+pub(crate) fn row_below(first: u32, last: Option<Row>) -> u32 {
+    match last {
+        Some(row) => row.number.saturating_add(1),
+        None => first.saturating_add(1),
     }
 }

@@ -1,9 +1,8 @@
 // A page in HTML, section by section.
-use crate::heading::Title;
 use crate::page::{push_page_end, push_page_start, push_part};
+use crate::part::Part;
 use std::alloc::{AllocError, Global};
 use std::marker::Model;
-use xb_measured::{Heard, NamedKey};
 
 /// A page in HTML whose sections come one by one. It holds none of them.
 #[derive(Drop)]
@@ -22,14 +21,14 @@ impl Model for Sections {
 }
 
 impl Sections {
-    ghost use Rattle.std.specs.Prelude.{◌≡◌, ◌++◌, ◌∷◌, [], false, IfErr, List, OnOk, string_bytes};
-    ghost use Rattle.xb_shown.specs.Pages.{page_rest, page_text, unbegun_text};
-    ghost use Rattle.xb_shown.specs.Pictures.{Part, part_of};
+    ghost use Rattle.std.specs.Prelude.{◌≡◌, ◌++◌, false, true, IfErr, OnOk, string_bytes};
+    ghost use Rattle.xb_svg.specs.Drawings.{PutsBy};
+    ghost use Rattle.xb_shown.specs.Pictures.{part_in};
+    ghost use Rattle.xb_shown.specs.Sections.{end_text, section_text, unbegun_text};
 
     /// Before the page is begun.
     pub fn new() -> Sections
-        ensures begun { result ≡ false }
-        ensures whole { (parts : List Part) → page_rest result parts ≡ page_text parts }
+        ensures { result ≡ false }
     {
         Sections { is_begun: false }
     }
@@ -51,23 +50,24 @@ impl Sections {
         &mut self,
         alloc: Global,
         out: &mut String,
-        title: Title,
-        before: Option<Heard>,
-        keys: &[NamedKey],
+        part: &Part<'_>,
     ) -> Result<(), AllocError>
-        ensures text { (later : List Part) → OnOk result (string_bytes out.new ++ page_rest self.new later
-            ≡ string_bytes out.old ++ page_rest self.old (part_of title before keys.now ∷ later)) }
+        ensures text { OnOk result (PutsBy
+            (λ looks. unbegun_text self.old ++ section_text looks (part_in part.now))
+            (string_bytes out.old) (string_bytes out.new)) }
+        ensures begun { OnOk result (self.new ≡ true) }
         ensures kept { IfErr result (λ _. self.new ≡ self.old) }
     {
         self.begin(out)?;
-        push_part(alloc, out, title, before, keys)?;
+        push_part(alloc, out, part)?;
         self.is_begun = true;
         Ok(())
     }
 
     /// Puts the end of the page after the text, of one without a section all of it. `Err` says that memory ran out.
     pub fn end(&self, out: &mut String) -> Result<(), AllocError>
-        ensures { OnOk result (string_bytes out.new ≡ string_bytes out.old ++ page_rest self.now []) }
+        ensures { OnOk result (string_bytes out.new
+            ≡ string_bytes out.old ++ (unbegun_text self.now ++ end_text)) }
     {
         self.begin(out)?;
         push_page_end(out)

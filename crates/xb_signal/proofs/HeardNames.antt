@@ -1,24 +1,23 @@
 -- What is heard of keys by their names.
-use Rattle.std.proofs.Common.{◌≡◌, ◌∙◌, ℕ, ◌+◌, ◌*◌, ◌≤◌, List, [], ◌∷◌, ◌++◌, map, sym, ap, append_assoc, arith, refl, ℤ, true, false}
-use Rattle.std.specs.List.{AllByRecursion, flat_map, range_with_len}
+use Rattle.std.proofs.Common.{◌≡◌, ◌∙◌, ℕ, ◌+◌, ◌*◌, ◌≤◌, List, [], ◌∷◌, ◌++◌, map, sym, ap, append_assoc, arith, refl, ℤ}
+use Rattle.std.specs.List.{AllByRecursion, flat_map}
 use Rattle.xb_model.specs.declared.key.Key.{Key as PageKey}
 use Rattle.xb_model.specs.declared.key.Key.TheVariants.{Digit, Kp, St}
 use Rattle.xb_model.specs.declared.mark.Mark.TheVariants.{Trunk}
 use Rattle.xb_model.specs.Keyings.{tone}
-use Rattle.xb_model.specs.MfPairs.{mf_pair, pair}
+use Rattle.xb_model.specs.MfPairs.{mf_pair}
 use Rattle.xb_sound.specs.declared.cadence.Cadence.{Cadence}
 use Rattle.xb_sound.specs.Cadences.{IsSetApart, tone_ms}
 use Rattle.xb_sound.specs.HeardKeys.{AreKeyed, IsKey, frequencies_of, keys_heard, keys_of}
-use Rattle.xb_sound.specs.Receiver.{correlation, cosine_wave, heard_after, is_zero, loud_frequencies, sine_wave}
+use Rattle.xb_sound.specs.Receiver.{correlation, cosine_wave, heard_after, loud_frequencies, sine_wave}
 use Rattle.xb_sound.specs.Sines.{pair_sample, sine_table}
 use Rattle.xb_sound.specs.Sounds.{silence, sound_of, tone_sound}
 use Rattle.xb_sound.proofs.HeardMarks.{keys_are_heard}
 use Rattle.xb_sound.proofs.Insides.{heard_after-tone}
-use Rattle.xb_sound.proofs.KeyWaves.{IsKeyWave, each_digit, key_wave}
-use Rattle.xb_sound.proofs.Places.{pair_sample-turns}
+use Rattle.xb_sound.proofs.KeyWaves.{IsKeyWave, each_digit, key_wave, wave_of}
 use Rattle.xb_sound.proofs.Silences.{heard_after-silence}
-use Rattle.xb_signal.specs.declared.name.Name.{Name}
-use Rattle.xb_signal.specs.declared.name.Name.TheVariants.{Key, Kp2, StPrime, StTwoPrimes, StThreePrimes}
+use Rattle.xb_signal.specs.declared.key_name.Name.{Name}
+use Rattle.xb_signal.specs.declared.key_name.Name.TheVariants.{Key, Kp2, StPrime, StTwoPrimes, StThreePrimes}
 use Rattle.xb_signal.specs.Names.{name_ms, pair_of}
 use Rattle.xb_signal.specs.Moments.{start}
 use Rattle.xb_signal.specs.Segments.{silent}
@@ -89,17 +88,6 @@ named_keys_are_heard cadence keys apart all =
     ap keys_heard (keys_sound_as_marks cadence 0 keys all)
     ∙ (keys_are_heard cadence (Trunk 0 ∷ map tone keys) apart (tt, are-keyed keys all)).keys
     ∙ keys-of keys
-
-wave_of : (a b : ℕ) → is_zero (pair_sample (pair (a * 100) (b * 100)) 0) ≡ true
-    → is_zero (pair_sample (pair (a * 100) (b * 100)) 1) ≡ false
-    → loud_frequencies (map (λ n. pair_sample (pair (a * 100) (b * 100)) n) (range_with_len 1 80))
-    ≡ frequencies_of (pair (a * 100) (b * 100))
-    → IsKeyWave (pair (a * 100) (b * 100))
-wave_of a b start first loud = record {
-  start = start;
-  wave = λ turn. ap is_zero (pair_sample-turns a b turn 1) ∙ first;
-  loud = loud;
-}
 
 name_wave : (name : Name) → IsName name → IsKeyWave (pair_of name)
 unfolding sine_table sine_wave cosine_wave correlation loud_frequencies

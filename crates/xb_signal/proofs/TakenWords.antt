@@ -21,11 +21,6 @@ pub none-left : (cadence : Cadence) (setting : Setting) (place : Place) (segment
 unfolding segments_of_words
 none-left cadence setting place segments = ap Ok (append-nil segments)
 
--- a piece without bytes
-pub takes-none : (place : Place) (cadence : Cadence) (setting : Setting) (segments : List Segment)
-    → TakesPiece place cadence setting [] segments segments
-takes-none place cadence setting segments later = refl
-
 -- a piece that is a word
 pub takes-word : (place : Place) (cadence : Cadence) (setting : Setting) (b : ℕ) (bytes : List ℕ)
     (old new : List Segment)

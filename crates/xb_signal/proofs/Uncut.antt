@@ -8,7 +8,7 @@ use Rattle.std.proofs.lemmas.Nat.{div-add-mod', mod_below}
 use Rattle.std.proofs.Math.Nat.{add-mul-mod_self_right, mul-le-mul_left}
 use Rattle.xb_model.specs.declared.key.Tone.{Tone as Pair}
 use Rattle.xb_sound.proofs.SineTables.{holds_below}
-use Rattle.xb_signal.specs.declared.keyed.Starts.{Starts}
+use Rattle.xb_signal.specs.declared.key_sample.Starts.{Starts}
 use Rattle.xb_signal.specs.declared.segment.Sound.{Sound}
 use Rattle.xb_signal.specs.declared.segment.Sound.TheVariants.{Keyed, Written}
 use Rattle.xb_signal.specs.declared.setting.Setting.{Setting}

@@ -1,3 +1,4 @@
+pub mod FaultTexts
 pub mod Levels
 pub mod Waves
 pub mod Shapes

@@ -3,8 +3,8 @@ use Rattle.std.specs.Prelude.{ℕ, List, Option, Some, None, bytes_eq, codes, if
 use Rattle.xb_model.specs.declared.key.Key.TheVariants.{Kp, St}
 use Rattle.xb_model.specs.declared.key.Tone.{Tone as Pair}
 use Rattle.xb_model.specs.MfPairs.{mf_pair, pair}
-use Rattle.xb_signal.specs.declared.name.Name.{Name}
-use Rattle.xb_signal.specs.declared.name.Name.TheVariants.{Key, Kp2, StPrime, StTwoPrimes, StThreePrimes}
+use Rattle.xb_signal.specs.declared.key_name.Name.{Name}
+use Rattle.xb_signal.specs.declared.key_name.Name.TheVariants.{Key, Kp2, StPrime, StTwoPrimes, StThreePrimes}
 use Rattle.xb_sound.specs.declared.cadence.Cadence.{Cadence}
 use Rattle.xb_sound.specs.Cadences.{tone_ms}
 

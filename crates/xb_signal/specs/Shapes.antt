@@ -1,7 +1,7 @@
 -- How the two tones of a key are disturbed, 8 samples in a ms.
 use Rattle.std.specs.Prelude.{ℕ, ◌+◌, ◌*◌, ◌/◌, ◌%◌, ◌-◌, Bool, false, ◌&&◌, if◌then◌else◌, nat_le, nat_lt, ℤ, pos, ◌+ℤ◌}
 use Rattle.xb_model.specs.declared.key.Tone.{Tone as Pair}
-use Rattle.xb_signal.specs.declared.keyed.Starts.{Starts}
+use Rattle.xb_signal.specs.declared.key_sample.Starts.{Starts}
 use Rattle.xb_signal.specs.declared.shape.Shape.{Shape}
 use Rattle.xb_chance.specs.Words.{state_after, word_of}
 use Rattle.xb_signal.specs.Waves.{scaled, wave_at}

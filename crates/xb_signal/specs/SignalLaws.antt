@@ -13,8 +13,8 @@ use Rattle.xb_sound.specs.Receiver.{heard}
 use Rattle.xb_sound.specs.Sines.{sine_sample}
 use Rattle.xb_sound.specs.Sounds.{sound_of}
 use Rattle.xb_sound.specs.WorkedSounds.{short}
-use Rattle.xb_signal.specs.declared.name.Name.{Name}
-use Rattle.xb_signal.specs.declared.name.Name.TheVariants.{Key, Kp2, StPrime, StTwoPrimes, StThreePrimes}
+use Rattle.xb_signal.specs.declared.key_name.Name.{Name}
+use Rattle.xb_signal.specs.declared.key_name.Name.TheVariants.{Key, Kp2, StPrime, StTwoPrimes, StThreePrimes}
 use Rattle.xb_signal.specs.Names.{pair_of}
 use Rattle.xb_signal.specs.declared.segment.Segment.{Segment}
 use Rattle.xb_signal.specs.declared.setting.Setting.{Setting}

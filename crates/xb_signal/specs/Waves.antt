@@ -1,6 +1,6 @@
 -- Sines of whole Hz, at 8,000 samples a second.
 use Rattle.std.specs.Prelude.{ℕ, ◌+◌, ◌*◌, ◌/◌, ◌%◌, ◌-◌, List, [], ◌∷◌, if◌then◌else◌, nat_le, slice_index_or, ℤ, pos, negsuc, neg_ℤ, ◌+ℤ◌, unsigned_abs}
-use Rattle.xb_signal.specs.declared.quarter.TheConstants.{QUARTER}
+use Rattle.xb_signal.specs.declared.sine_table.TheConstants.{QUARTER}
 
 -- 10,000 times the sine of each sample of the first quarter of a period of 1 Hz, rounded, from 0 to 2,000
 unfoldable pub quarter : List ℕ

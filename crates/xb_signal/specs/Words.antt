@@ -4,8 +4,8 @@ use Rattle.std.specs.List.{flat_map, list_all}
 use Rattle.xb_contact.specs.Numbers.{is_digit, number_of}
 use Rattle.xb_model.specs.declared.key.Key.TheVariants.{Digit}
 use Rattle.xb_model.specs.Digits.{digit_of_ascii}
-use Rattle.xb_signal.specs.declared.name.Name.{Name}
-use Rattle.xb_signal.specs.declared.name.Name.TheVariants.{Key}
+use Rattle.xb_signal.specs.declared.key_name.Name.{Name}
+use Rattle.xb_signal.specs.declared.key_name.Name.TheVariants.{Key}
 use Rattle.xb_signal.specs.declared.segment.Segment.{Segment}
 use Rattle.xb_signal.specs.declared.segment.Sound.TheVariants.{Written}
 use Rattle.xb_signal.specs.declared.segment.TheConstants.{MOST_TONES}

@@ -16,6 +16,11 @@ pub struct Place {
 }
 
 impl Display for Place {
+    ghost use Rattle.std.specs.Prelude.{Some};
+    ghost use Rattle.xb_signal.specs.FaultTexts.{place_text};
+
+    ghost output = { λ place. Some (place_text place) };
+
     fn fmt<W: Write>(&self, f: &mut Formatter<W>) -> fmt::Result {
         write!(f, "word {}, at byte {}", self.word, self.byte)
     }
@@ -25,17 +30,29 @@ impl Display for Place {
 #[derive(Clone, Copy, Debug, PartialEq, Eq, Error)]
 pub enum KeysFault {
     /// There is no word.
-    #[error("there is no word")]
     NoWords,
     /// A word is neither digits, nor the name of a key, nor what sounds for a time.
-    #[error("{0}, is no key and no sound")]
     NoWord(Place),
     /// The frequencies of a word together have samples of more than 16 bits.
-    #[error("{0}, is too loud for 16 bits")]
     Loud(Place),
     /// Memory ran out.
-    #[error("out of memory")]
     NoMemory,
+}
+
+impl fmt::Display for KeysFault {
+    ghost use Rattle.std.specs.Prelude.{Some};
+    ghost use Rattle.xb_signal.specs.FaultTexts.{keys_text};
+
+    ghost output = { λ fault. Some (keys_text fault) };
+
+    fn fmt<W: fmt::Write>(&self, f: &mut fmt::Formatter<W>) -> fmt::Result {
+        match self {
+            KeysFault::NoWords => f.write_str("there is no word"),
+            KeysFault::NoWord(fault) => write!(f, "{fault}, is no key and no sound"),
+            KeysFault::Loud(fault) => write!(f, "{fault}, is too loud for 16 bits"),
+            KeysFault::NoMemory => f.write_str("out of memory"),
+        }
+    }
 }
 
 impl From<AllocError> for KeysFault {

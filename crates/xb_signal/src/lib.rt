@@ -1,7 +1,7 @@
 //! Signals by words: keys by their names, and frequencies of whole Hz for a time, at any level and with noise, for who
 //! tests a receiver.
 //!
-//! - `wave_sample`: sample n of a sine of whole Hz, at 8,000 samples a second, of one table of 8,000.
+//! - `wave_at`: the samples of one period of a sine of 1 Hz, 8,000 of them. Each sine of whole Hz is taken of these.
 //! - `Setting`: the amplitudes of the tones, how keys are disturbed (`Shape`), what sounds all through (`Steady`), and
 //!   the noise; `amplitude_of` gives the amplitude of a level.
 //! - `all_fit`: whether each sample of segments has 16 bits, whatever is added; a segment is a key, or up to six
@@ -27,17 +27,17 @@
 mod block;
 mod fault;
 mod form;
-mod keyed;
+mod key_name;
+mod key_sample;
 pub mod laws;
 mod level;
 mod moment;
-mod name;
-mod quarter;
 mod sample;
-mod samples;
+mod sample_range;
 mod segment;
 mod setting;
 mod shape;
+mod sine_table;
 mod steady;
 mod text;
 mod wav_head;
@@ -47,15 +47,15 @@ mod writing;
 
 pub use fault::{KeysFault, Place, SignalFault};
 pub use form::Form;
+pub use key_name::Name;
 pub use level::amplitude_of;
 pub use moment::Moment;
-pub use name::{Name, pair_of};
-pub use samples::all_fit;
-pub use segment::{MOST_TONES, Segment, Sound, Tones};
+pub use sample_range::all_fit;
+pub use segment::{Segment, Sound, Tones};
 pub use setting::Setting;
 pub use shape::Shape;
 pub use steady::Steady;
 pub use text::segments_of_text;
-pub use wave::{wave_at, wave_sample};
-pub use word::{MOST_HZ, MOST_MS};
+pub use wave::wave_at;
+pub use word::MOST_HZ;
 pub use writing::write_signal;

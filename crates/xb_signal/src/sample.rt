@@ -2,7 +2,7 @@
 ghost use Rattle.std.specs.Prelude.{◌≡◌, ◌<◌, ◌≤◌, unsigned_abs};
 ghost use Rattle.xb_signal.specs.OneSample.{clean_sample, cut, fits, has_room, is_drawn, peak_of, quiet_sample, sample_at};
 
-use crate::keyed::keyed_sample;
+use crate::key_sample::keyed_sample;
 use crate::moment::Moment;
 use crate::segment::Sound;
 use crate::setting::Setting;

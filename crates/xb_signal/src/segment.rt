@@ -10,7 +10,7 @@ use xb_model::Tone;
 pub(crate) const SAMPLES_PER_MS: u32 = 8;
 
 /// The most frequencies that sound together.
-pub const MOST_TONES: usize = 6;
+pub(crate) const MOST_TONES: usize = 6;
 
 /// Frequencies that sound together, each in Hz: up to six, which take no memory of their own.
 #[derive(Drop)]

@@ -7,8 +7,8 @@ ghost use Rattle.xb_signal.specs.TextSteps.{IsFault, IsFaultOfWord, StopsBy, Tak
 ghost use Rattle.xb_signal.specs.Words.{digit_segments, word_segments};
 
 use crate::fault::{KeysFault, Place};
-use crate::name::{Name, name_of};
-use crate::samples::all_fit;
+use crate::key_name::{Name, name_of};
+use crate::sample_range::all_fit;
 use crate::segment::Segment;
 use crate::setting::Setting;
 use crate::word::{is_digits, push_key, segment_of};

@@ -1,29 +1,11 @@
 // The head of the WAV file of a signal.
 ghost use Rattle.std.specs.Prelude.{◌≡◌, ◌++◌, ◌<◌, ◌+◌, ◌*◌, ◌^◌, OnOk};
-ghost use Rattle.xb_sound.specs.Wavs.{four_bytes, two_bytes};
-ghost use Rattle.xb_signal.specs.Forms.{fact_chunk, head_bytes, head_of_form, mu_law_format, mu_law_head, mu_law_width, sample_bytes};
+ghost use Rattle.xb_sound.specs.Wavs.{four_bytes};
+ghost use Rattle.xb_signal.specs.Forms.{fact_chunk, head_bytes, head_of_form, mu_law_format, mu_law_head, sample_bytes};
 
 use crate::form::Form;
 use std::alloc::AllocError;
-use xb_sound::{SAMPLES_PER_SECOND, push_header};
-
-// The number of the format mu-law.
-const MU_LAW: u16 = 7;
-
-// How many channels there are.
-const CHANNELS: u16 = 1;
-
-// How many bytes a sample of mu-law has, and how many bits.
-const SAMPLE_BYTES: u16 = 1;
-
-const SAMPLE_BITS: u16 = 8;
-
-// Puts a number of two bytes after the bytes, the low one first.
-fn push_short(out: &mut Vec<u8>, number: u16) -> Result<(), AllocError>
-    ensures { OnOk result (out.new.items ≡ out.old.items ++ two_bytes number) }
-{
-    out.extend_from_slice(&number.to_le_bytes())
-}
+use xb_sound::push_header;
 
 // Puts a number of four bytes after the bytes, the low one first.
 fn push_long(out: &mut Vec<u8>, number: u32) -> Result<(), AllocError>
@@ -32,26 +14,12 @@ fn push_long(out: &mut Vec<u8>, number: u32) -> Result<(), AllocError>
     out.extend_from_slice(&number.to_le_bytes())
 }
 
-// Puts the width of a sample after the bytes: its bytes and bits, and how many bytes come after them, which are none.
-fn push_width(out: &mut Vec<u8>) -> Result<(), AllocError>
-    ensures { OnOk result (out.new.items ≡ out.old.items ++ mu_law_width) }
-{
-    push_short(out, SAMPLE_BYTES)?;
-    push_short(out, SAMPLE_BITS)?;
-    push_short(out, 0)
-}
-
-// Puts the chunk that tells the format after the bytes.
+// Puts the chunk that tells the format after the bytes: of 18 bytes, mu-law (7) in one channel, 8,000 samples and bytes a
+// second, one byte and 8 bits a sample, and no bytes more.
 fn push_format(out: &mut Vec<u8>) -> Result<(), AllocError>
     ensures { OnOk result (out.new.items ≡ out.old.items ++ mu_law_format) }
 {
-    out.extend_from_slice(b"fmt ")?;
-    push_long(out, 18)?;
-    push_short(out, MU_LAW)?;
-    push_short(out, CHANNELS)?;
-    push_long(out, SAMPLES_PER_SECOND)?;
-    push_long(out, SAMPLES_PER_SECOND)?;
-    push_width(out)
+    out.extend_from_slice(b"fmt \x12\0\0\0\x07\0\x01\0\x40\x1f\0\0\x40\x1f\0\0\x01\0\x08\0\0\0")
 }
 
 // Puts the chunk that tells how many samples there are after the bytes.

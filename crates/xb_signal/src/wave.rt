@@ -2,8 +2,8 @@
 ghost use Rattle.std.specs.Prelude.{◌≡◌, ◌<◌, ◌≤◌, ◌*◌, length, unsigned_abs};
 ghost use Rattle.xb_signal.specs.Waves.{chorus, mixed, quarter_at, scaled, wave_at, wave_sample};
 
-use crate::quarter::QUARTER;
 use crate::segment::MOST_TONES;
+use crate::sine_table::QUARTER;
 
 // The sample at a place of the first quarter of a period of 1 Hz.
 fn quarter_at(place: usize) -> u16
@@ -32,7 +32,7 @@ pub fn wave_at(place: usize) -> i16
 }
 
 /// Sample n of a frequency in whole Hz, from a start at 0.
-pub fn wave_sample(hz: u32, n: u32) -> i16
+pub(crate) fn wave_sample(hz: u32, n: u32) -> i16
     ensures value { result ≡ wave_sample hz n }
     ensures bound { unsigned_abs result ≤ 10000 }
 {

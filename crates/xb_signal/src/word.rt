@@ -3,7 +3,7 @@ ghost use Rattle.std.specs.Prelude.{◌≡◌, ◌++◌, OnOk};
 ghost use Rattle.std.specs.List.{list_all};
 ghost use Rattle.xb_signal.specs.Words.{digit_segments, is_digits, key_segments, number_within, segment_of, tones_of};
 
-use crate::name::{Name, name_ms, pair_of};
+use crate::key_name::{Name, name_ms, pair_of};
 use crate::segment::{MOST_TONES, Segment, Sound, Tones};
 use std::alloc::AllocError;
 use xb_contact::{is_digit, number_of};
@@ -15,7 +15,7 @@ use xb_text::{cut_at, first_piece};
 pub const MOST_HZ: u16 = 3_999;
 
 /// The longest tone and the longest silence of a word, in ms.
-pub const MOST_MS: u16 = 60_000;
+pub(crate) const MOST_MS: u16 = 60_000;
 
 // The number that digits write, from 1 to the most.
 fn number_within(most: u16, text: &[u8]) -> Option<u16>

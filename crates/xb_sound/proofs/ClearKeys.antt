@@ -107,7 +107,7 @@ samples_at earlier tone later n within =
     ∙ drop-append-le n tone later (omega arith))
     ∙ take-append-le 80 (drop n tone) later (omega (arith, length-drop n tone))
 
-drops : (f : ℕ → ℤ) (n a all b m : ℕ) → b ≡ a + n → all ≡ n + m
+pub drops : {A : Type 0} (f : ℕ → A) (n a all b m : ℕ) → b ≡ a + n → all ≡ n + m
     → drop n (map f (range_with_len a all)) ≡ map f (range_with_len b m)
 drops f zero a all b m at covers =
     let start : a ≡ b = omega arith in

@@ -42,6 +42,27 @@ after_tone cadence apart key pair wave silent enough xs later rest =
     ∙ ap (λ (more : List (List ℕ)). frequencies_of pair ∷ more)
     (heard_after-silence (cadence.gap_ms * 8) once.left xs ∙ rest (once.left + cadence.gap_ms * 8) gap)
 
+-- the pairs of marks are heard, and then what comes after them
+pub marks-heard : (cadence : Cadence) → IsSetApart cadence → (marks : List Mark) → AreKeyed marks
+    → (silent : ℕ) → 80 ≤ silent → (xs : List ℤ) (later : List (List ℕ))
+    → ((z : ℕ) → 80 ≤ z → heard_after z xs ≡ later)
+    → heard_after silent (sound_of cadence marks ++ xs) ≡ pairs_of marks ++ later
+unfolding heard_after
+marks-heard cadence apart [] keyed silent enough xs later rest = rest silent enough
+marks-heard cadence apart (Trunk t ∷ marks) keyed silent enough xs later rest =
+    ap (λ (samples : List ℤ). heard_after silent samples)
+    (append_assoc (silence cadence.lead_ms) (sound_of cadence marks) xs)
+    ∙ heard_after-silence (cadence.lead_ms * 8) silent (sound_of cadence marks ++ xs)
+    ∙ marks-heard cadence apart marks keyed.1 (silent + cadence.lead_ms * 8) (omega arith) xs later rest
+marks-heard cadence apart (Tone key pair ∷ marks) keyed silent enough xs later rest =
+    let wave : IsKeyWave pair = subst IsKeyWave (sym keyed.0.1) (key_wave key keyed.0.0) in
+    let tone = tone_sound pair (tone_ms cadence key) ++ silence cadence.gap_ms in
+    ap (λ (samples : List ℤ). heard_after silent samples) (append_assoc tone (sound_of cadence marks) xs)
+    ∙ after_tone cadence apart key pair wave silent enough (sound_of cadence marks ++ xs) (pairs_of marks ++ later)
+    (λ z h. marks-heard cadence apart marks keyed.1 z h xs later rest)
+marks-heard cadence apart (Refused reason count ∷ marks) keyed silent enough xs later rest =
+    marks-heard cadence apart marks keyed.1 silent enough xs later rest
+
 -- after silence, however long it was, the pairs of the marks are heard
 pairs_are_heard : (cadence : Cadence) → IsSetApart cadence → (marks : List Mark) → AreKeyed marks
     → (silent : ℕ) → 80 ≤ silent → heard_after silent (sound_of cadence marks) ≡ pairs_of marks

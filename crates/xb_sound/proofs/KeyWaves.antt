@@ -34,7 +34,7 @@ pub record IsKeyWave (pair : Pair) : Type 0 where
   pub wave : IsWave (λ n. pair_sample pair n)
   pub loud : loud_frequencies (map (λ n. pair_sample pair n) (range_with_len 1 80)) ≡ frequencies_of pair
 
-wave_of : (a b : ℕ) → is_zero (pair_sample (pair (a * 100) (b * 100)) 0) ≡ true
+pub wave_of : (a b : ℕ) → is_zero (pair_sample (pair (a * 100) (b * 100)) 0) ≡ true
     → is_zero (pair_sample (pair (a * 100) (b * 100)) 1) ≡ false
     → loud_frequencies (map (λ n. pair_sample (pair (a * 100) (b * 100)) n) (range_with_len 1 80))
     ≡ frequencies_of (pair (a * 100) (b * 100))

@@ -75,7 +75,7 @@ outcome-dialled plan limits runs =
     by (Some digits) is mutilated timed count = is
 
 -- the route that a number takes is one of the table
-abbrev IfPrefix : Option CodedRoute → Type 0
+abbrev pub IfPrefix : Option CodedRoute → Type 0
 IfPrefix None = Unit {0}
 IfPrefix (Some route) = AreDigits route.prefixed
 
@@ -111,7 +111,7 @@ drop-digits zero xs all = all
 drop-digits (suc n) [] all = tt
 drop-digits (suc n) (x ∷ xs) all = drop-digits n xs all.1
 
-order-keyed : (route : Option CodedRoute) (digits : List ℕ) → IfPrefix route → AreDigits digits
+pub order-keyed : (route : Option CodedRoute) (digits : List ℕ) → IfPrefix route → AreDigits digits
     → AreKeyed (marks_of (order_by route digits))
 order-keyed None digits is all = (tt, tt)
 order-keyed (Some route) digits is all = (

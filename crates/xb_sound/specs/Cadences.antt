@@ -1,5 +1,5 @@
 -- How long the tones of a keying last, each in ms (standard times: Notes on Distance Dialing).
-use Rattle.std.specs.Prelude.{ℕ, ◌<◌, ◌≤◌}
+use Rattle.std.specs.Prelude.{ℕ, ◌<◌, ◌≤◌, Option, Some, None, min}
 use Rattle.xb_model.specs.declared.key.Key.{Key}
 use Rattle.xb_model.specs.declared.key.Key.TheVariants.{Digit, Kp, St}
 use Rattle.xb_sound.specs.declared.cadence.Cadence.{Cadence}
@@ -9,6 +9,20 @@ use Rattle.xb_sound.specs.declared.cadence.TheConstants.{LONGEST_LEAD_MS, LONGES
 
 abbrev pub standard_cadence : Cadence
 standard_cadence = record { lead_ms = 500; kp_ms = 100; key_ms = 68; gap_ms = 68 }
+
+-- a time that is given, up to the longest that is told apart, or else that of the standard
+abbrev pub chosen_ms : Option ℕ → ℕ → ℕ
+chosen_ms None standard = standard
+chosen_ms (Some ms) standard = min ms 65535
+
+-- the standard cadence, with each time that is given in place of its own
+abbrev pub chosen_cadence : Option ℕ → Option ℕ → Option ℕ → Option ℕ → Cadence
+chosen_cadence lead kp key gap = record {
+  lead_ms = chosen_ms lead standard_cadence.lead_ms;
+  kp_ms = chosen_ms kp standard_cadence.kp_ms;
+  key_ms = chosen_ms key standard_cadence.key_ms;
+  gap_ms = chosen_ms gap standard_cadence.gap_ms;
+}
 
 -- how long the tone of a key lasts
 abbrev pub tone_ms : Cadence → Key → ℕ

@@ -1,7 +1,8 @@
 // How long the tones of a keying last, and the silences between them.
 ghost use Rattle.std.specs.Prelude.{◌≡◌, ◌↔◌, IsOk, IfErr, IsTrue};
-ghost use Rattle.xb_sound.specs.Cadences.{standard_cadence, IsLawful, IsFirstMisfit, IsSetApart, IsToneTime, tone_ms};
+ghost use Rattle.xb_sound.specs.Cadences.{chosen_cadence, chosen_ms, standard_cadence, IsLawful, IsFirstMisfit, IsSetApart, IsToneTime, tone_ms};
 
+use std::fmt;
 use thiserror::Error;
 use xb_model::Key;
 
@@ -11,7 +12,9 @@ pub const LONGEST_LEAD_MS: u16 = 60_000;
 /// The longest tone, and the longest silence after one, in ms: a limit of our own.
 pub const LONGEST_MS: u16 = 10_000;
 
-/// How long the tones of a keying last, and the silences between them, each in ms.
+/// How long the tones of a keying last, and the silences between them, each in ms. They lie in memory as C has them, for
+/// a caller of another language.
+#[repr(C)]
 #[derive(Clone, Copy, Debug, PartialEq, Eq)]
 pub struct Cadence {
     /// The silence before KP.
@@ -28,17 +31,29 @@ pub struct Cadence {
 #[derive(Clone, Copy, Debug, PartialEq, Eq, Error)]
 pub enum CadenceFault {
     /// The silence before KP is too long.
-    #[error("the silence before KP is too long")]
     Lead,
     /// The tone of KP has 0 ms, or is too long.
-    #[error("the tone of KP has 0 ms or is too long")]
     Kp,
     /// The tone of a digit and of ST has 0 ms, or is too long.
-    #[error("the tone of a digit has 0 ms or is too long")]
     Key,
     /// The silence after a tone is too long.
-    #[error("the silence after a tone is too long")]
     Gap,
+}
+
+impl fmt::Display for CadenceFault {
+    ghost use Rattle.std.specs.Prelude.{Some};
+    ghost use Rattle.xb_sound.specs.FaultTexts.{cadence_text};
+
+    ghost output = { λ fault. Some (cadence_text fault) };
+
+    fn fmt<W: fmt::Write>(&self, f: &mut fmt::Formatter<W>) -> fmt::Result {
+        match self {
+            CadenceFault::Lead => f.write_str("the silence before KP is too long"),
+            CadenceFault::Kp => f.write_str("the tone of KP has 0 ms or is too long"),
+            CadenceFault::Key => f.write_str("the tone of a digit has 0 ms or is too long"),
+            CadenceFault::Gap => f.write_str("the silence after a tone is too long"),
+        }
+    }
 }
 
 // Whether a tone may last so long.
@@ -46,6 +61,16 @@ fn is_tone_time(ms: u16) -> bool
     ensures { IsTrue result ↔ IsToneTime ms }
 {
     0 < ms && ms <= LONGEST_MS
+}
+
+// A time that is given, up to the longest that is told apart, or else that of the standard.
+fn chosen_ms(given: Option<u32>, standard: u16) -> u16
+    ensures { result ≡ chosen_ms given standard }
+{
+    match given {
+        Some(ms) => ms.min(65_535) as u16,
+        None => standard,
+    }
 }
 
 impl Cadence {
@@ -61,6 +86,25 @@ impl Cadence {
             kp_ms: 100,
             key_ms: 68,
             gap_ms: 68,
+        }
+    }
+
+    /// The standard cadence, with each time that is given in place of its own, in ms: the silence before KP, the tone
+    /// of KP, that of a digit and of ST, and the silence after a tone. A time over 65,535 ms counts as that.
+    pub fn chosen(
+        lead_ms: Option<u32>,
+        kp_ms: Option<u32>,
+        key_ms: Option<u32>,
+        gap_ms: Option<u32>,
+    ) -> Cadence
+        ensures { result ≡ chosen_cadence lead_ms kp_ms key_ms gap_ms }
+    {
+        let standard = Cadence::standard();
+        Cadence {
+            lead_ms: chosen_ms(lead_ms, standard.lead_ms),
+            kp_ms: chosen_ms(kp_ms, standard.kp_ms),
+            key_ms: chosen_ms(key_ms, standard.key_ms),
+            gap_ms: chosen_ms(gap_ms, standard.gap_ms),
         }
     }
 

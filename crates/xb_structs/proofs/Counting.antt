@@ -15,7 +15,7 @@ use Rattle.xb_model.specs.Image.{image_on}
 use Rattle.xb_model.specs.OnLines.{on_line}
 use Rattle.xb_routes.specs.Table.{Table}
 use Rattle.xb_serial.specs.Chain.{live_machine, marks_of_row, state_after_row}
-use Rattle.xb_serial.proofs.OneLine.{image_from-append}
+use Rattle.xb_model.proofs.Images.{image_from-append}
 use Rattle.xb_structs.specs.declared.line.PlainLine.{PlainLine}
 use Rattle.xb_structs.specs.declared.mark.PlainMark.{PlainMark}
 use Rattle.xb_structs.specs.Marks.{plain_mark}

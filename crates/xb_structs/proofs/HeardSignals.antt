@@ -38,7 +38,7 @@ use Rattle.xb_serial.specs.Chain.{fresh_line, line_state, marks_of_row}
 use Rattle.xb_serial.specs.Entrances.{EntrancesAgree as SerialEntrancesAgree, entry_of, marks_from, marks_of_signal, marks_of_signals, outcomes_from, signal_machine, state_after_signal}
 use Rattle.xb_serial.specs.Promises.{tape_on}
 use Rattle.xb_serial.proofs.Entrances.{entrances_agree, marks-append, one_by_one, outcomes-append, register-one_by_one, row_marks}
-use Rattle.xb_serial.proofs.OneLine.{image_from-append}
+use Rattle.xb_model.proofs.Images.{image_from-append}
 use Rattle.xb_structs.specs.declared.heard_signal.HeardSignal.{HeardSignal}
 use Rattle.xb_structs.specs.declared.heard_signal.HeardSignal.TheVariants as heard
 use Rattle.xb_structs.specs.declared.line.PlainLine.{PlainLine}

@@ -20,7 +20,7 @@ use Rattle.xb_pulse.specs.Machine.{signals_by}
 use Rattle.xb_routes.specs.Table.{Table}
 use Rattle.xb_serial.specs.declared.line.Line.{Line}
 use Rattle.xb_serial.specs.Chain.{keyed, live_machine, marks_of_row, outcomes_of_row}
-use Rattle.xb_serial.proofs.OneLine.{image_from-append}
+use Rattle.xb_model.proofs.Images.{image_from-append}
 use Rattle.xb_serial.proofs.OneOutcome.{one_at_most, row_outcomes}
 use Rattle.xb_structs.specs.declared.line.PlainLine.{PlainLine}
 use Rattle.xb_structs.specs.declared.mark.PlainMark.{PlainMark}

@@ -13,7 +13,7 @@ use Rattle.xb_structs.specs.declared.row_signals.PlainSignal.{PlainSignal}
 use Rattle.xb_structs.specs.declared.table.PlainTable.{PlainTable}
 use Rattle.xb_structs.specs.Lines.{pulse_in}
 use Rattle.xb_structs.specs.Rows.{row_in}
-use Rattle.xb_structs.specs.Tables.{IsOpen, limits_in}
+use Rattle.xb_structs.specs.Tables.{IsOpen}
 
 abbrev pub bit_of : Bool → ℕ
 bit_of bit = if bit then 1 else 0
@@ -42,7 +42,7 @@ pub record Hears (plain : PlainTable) (line : PlainLine) (row : PlainRow) (room 
   pub is_open : IsOpen plain
   pub taken : LoopRow
   pub says : row_in row ≡ Ok taken
-  pub signals : take count room ≡ map plain_signal (signals_by (limits_in plain) (pulse_in line.pulse) taken)
+  pub signals : take count room ≡ map plain_signal (signals_by plain.limits (pulse_in line.pulse) taken)
 
 -- a row of an open table that is wrong itself
 abbrev pub IsWrong : PlainTable → PlainRow → Refusal → Type 0
@@ -53,7 +53,7 @@ pub record LacksRoom (table : PlainTable) (row : PlainRow) (line : PlainLine) (r
   pub is_open : IsOpen table
   pub taken : LoopRow
   pub says : row_in row ≡ Ok taken
-  pub less : room < length (signals_by (limits_in table) (pulse_in line.pulse) taken)
+  pub less : room < length (signals_by table.limits (pulse_in line.pulse) taken)
 
 -- when each refusal comes
 abbrev pub IsNotHeard : Refusal → PlainTable → PlainRow → PlainLine → ℕ → Type 0

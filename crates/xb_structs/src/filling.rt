@@ -26,12 +26,7 @@ pub fn begin(table: &mut PlainTable, plan: u32, limits: Limits) -> Result<(), Ro
     };
     let limits = limits_by(limits)?;
     table.plan = plan;
-    table.pulse_min = limits.pulse_min;
-    table.pulse_max = limits.pulse_max;
-    table.make_min = limits.make_min;
-    table.pause = limits.pause;
-    table.release = limits.release;
-    table.timeout = limits.timeout;
+    table.limits = limits;
     table.count = 0;
     Ok(())
 }

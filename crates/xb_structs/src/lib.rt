@@ -60,7 +60,7 @@ pub use reading::open;
 pub use refusal::Refusal;
 pub use route::PlainRoute;
 pub use row::PlainRow;
-pub use row_signals::{PlainSignal, signals};
+pub use row_signals::{PlainSignal, signals, train_elements};
 pub use search::deciding;
 pub use status::{
     DONE, fault_place, fault_status, not_heard_status, not_routed_status, print_status,

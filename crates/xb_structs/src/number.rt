@@ -3,8 +3,6 @@ ghost use Rattle.std.specs.Prelude.{◌≡◌, ◌≤◌, ◌<◌, Err, IfErr, I
 ghost use Rattle.xb_model.specs.declared.dialled.Dialled.TheVariants.{Number};
 ghost use Rattle.xb_model.specs.declared.stage.TheConstants.{MOST_OUTPUTS};
 ghost use Rattle.xb_model.specs.Keyings.{marks_of};
-ghost use Rattle.xb_model.specs.Numbers.{reaches};
-ghost use Rattle.xb_model.specs.Plans.{plan_len};
 ghost use Rattle.xb_model.specs.Routing.{CodedRoute, order_of};
 ghost use Rattle.xb_structs.specs.Marks.{mark_on};
 ghost use Rattle.xb_structs.specs.Numbers.{IsNotRouted, Routes, number_of_bytes};
@@ -15,7 +13,7 @@ use crate::keying::order_of;
 use crate::mark::{PlainMark, put_marks};
 use crate::route::PlainRoute;
 use crate::table::{PlainTable, parts_of};
-use xb_model::{Dialled, Digit, LineNo, NumberDigits, Plan, plan_len};
+use xb_model::{Dialled, Digit, LineNo, NumberDigits, Plan, is_reached};
 use xb_sender::marks_of;
 
 /// Why digits get no keying. The first in this order is returned.
@@ -31,17 +29,6 @@ pub enum NotRouted {
     Room,
 }
 
-// Whether the digits are as many as their number has.
-fn is_reached(plan: Plan, number: &NumberDigits) -> bool
-    ensures { result ≡ reaches (plan_len plan number.now) (length number.now) }
-{
-    let digits = number.digits();
-    match plan_len(plan, digits) {
-        Some(len) => usize::from(len) <= digits.len(),
-        None => false,
-    }
-}
-
 // The number that bytes complete before the first that is no digit.
 fn number_of_bytes(plan: Plan, bytes: &[u8]) -> Result<NumberDigits, NotRouted>
     ensures number { IfOk result (λ number. number_of_bytes plan bytes.now ≡ Ok number) }
@@ -53,7 +40,7 @@ fn number_of_bytes(plan: Plan, bytes: &[u8]) -> Result<NumberDigits, NotRouted>
             return Err(NotRouted::Digit);
         };
         number.push(digit);
-        if is_reached(plan, &number) {
+        if is_reached(plan, number.digits()) {
             return Ok(number);
         }
     }

@@ -70,12 +70,7 @@ pub fn open(alloc: Global, text: &[u8], table: &mut PlainTable) -> Result<(), Ro
     put_routes(&routes, &mut table.routes);
     let limits = read.limits();
     table.plan = plan_number(read.plan());
-    table.pulse_min = limits.pulse_min;
-    table.pulse_max = limits.pulse_max;
-    table.make_min = limits.make_min;
-    table.pause = limits.pause;
-    table.release = limits.release;
-    table.timeout = limits.timeout;
+    table.limits = limits;
     table.count = routes.len() as u32;
     Ok(())
 }

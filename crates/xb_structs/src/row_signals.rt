@@ -27,8 +27,8 @@ pub struct PlainSignal {
     pub elements: [u8; 5],
 }
 
-// The elements that operate for a train.
-fn elements_of(count: u8, bad: bool) -> [u8; 5]
+/// The elements that operate for a train, of the weights 0, 1, 2, 4 and 7.
+pub fn train_elements(count: u8, bad: bool) -> [u8; 5]
     ensures { result ≡ bits_of (pattern_of_count count bad) }
 {
     if bad {
@@ -57,7 +57,7 @@ fn bare(kind: u8) -> PlainSignal
         kind,
         breaks: 0,
         bad: 0,
-        elements: elements_of(0, true),
+        elements: train_elements(0, true),
     }
 }
 
@@ -71,7 +71,7 @@ fn plain_signal(signal: Signal) -> PlainSignal
             kind: 1,
             breaks: count,
             bad: u8::from(bad),
-            elements: elements_of(count, bad),
+            elements: train_elements(count, bad),
         },
         Signal::TimeOut => bare(2),
         Signal::Release => bare(3),

@@ -3,7 +3,7 @@ ghost use Rattle.std.specs.Prelude.{◌≡◌, ◌≤◌, ◌↔◌, IsSome, IfS
 ghost use Rattle.xb_model.specs.LawfulLimits.{IsLawful};
 ghost use Rattle.xb_model.specs.Plans.{plan_of_digits};
 ghost use Rattle.xb_routes.specs.declared.table.TheConstants.{MOST_ROUTES};
-ghost use Rattle.xb_structs.specs.Tables.{IsOpen, limits_in, plan_number};
+ghost use Rattle.xb_structs.specs.Tables.{IsOpen, plan_number};
 
 use crate::route::PlainRoute;
 use xb_model::{Limits, Plan};
@@ -15,18 +15,8 @@ use xb_routes::limits_by;
 pub struct PlainTable {
     /// How long numbers are: 7 or 10.
     pub plan: u32,
-    /// The shortest break that is a pulse, in ms.
-    pub pulse_min: u32,
-    /// The longest break that is a pulse.
-    pub pulse_max: u32,
-    /// The shortest make between two pulses.
-    pub make_min: u32,
-    /// A make of this or more after a pulse ends the digit.
-    pub pause: u32,
-    /// A break of this or more releases the line.
-    pub release: u32,
-    /// A make of this or more times out an unfinished attempt.
-    pub timeout: u32,
+    /// The limits of a line's pulses.
+    pub limits: Limits,
     /// How many routes there are.
     pub count: u32,
     /// The routes in the order of their codes' numbers, and room for more.
@@ -45,18 +35,10 @@ pub(crate) fn plan_number(plan: Plan) -> u32
 
 // The limits of a table, if they are lawful.
 fn limits_of(table: &PlainTable) -> Option<Limits>
-    ensures variant { IsSome result ↔ IsLawful (limits_in table.now) }
-    ensures value { IfSome result (λ limits. limits ≡ limits_in table.now) }
+    ensures variant { IsSome result ↔ IsLawful table.now.limits }
+    ensures value { IfSome result (λ limits. limits ≡ table.now.limits) }
 {
-    let limits = Limits {
-        pulse_min: table.pulse_min,
-        pulse_max: table.pulse_max,
-        make_min: table.make_min,
-        pause: table.pause,
-        release: table.release,
-        timeout: table.timeout,
-    };
-    limits_by(limits).ok()
+    limits_by(table.limits).ok()
 }
 
 /// The routes of a table, if their count is not too great.
@@ -79,7 +61,7 @@ pub(crate) struct Opened<'t> {
 pub(crate) fn parts_of(table: &PlainTable) -> Option<Opened<'_>>
     ensures variant { IsSome result ↔ IsOpen table.now }
     ensures plan { IfSome result (λ parts. plan_of_digits table.now.plan ≡ Some parts.plan) }
-    ensures limits { IfSome result (λ parts. parts.limits ≡ limits_in table.now) }
+    ensures limits { IfSome result (λ parts. parts.limits ≡ table.now.limits) }
     ensures routes { IfSome result (λ parts. parts.routes.now ≡ take table.now.count table.now.routes) }
 {
     Some(Opened {

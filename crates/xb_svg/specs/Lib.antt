@@ -1,3 +1,4 @@
 pub mod Looks
 pub mod Escaped
 pub mod Elements
+pub mod Drawings

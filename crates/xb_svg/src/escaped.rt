@@ -13,6 +13,8 @@ fn push_sign(out: &mut String, sign: char) -> Result<(), AllocError>
         '<' => out.push_str("&lt;"),
         '>' => out.push_str("&gt;"),
         '"' => out.push_str("&quot;"),
+        '×' => out.push_str("&#215;"),
+        '…' => out.push_str("&#8230;"),
         _ => out.push(sign),
     }
 }

@@ -54,8 +54,13 @@ fn push_path(out: &mut String, steps: &[Step], ink: Ink, width: u16) -> Result<(
     )
 }
 
-/// Puts a line of this colour, so thick, after the text.
-pub fn push_line(out: &mut String, steps: &[Step], ink: Ink, width: u16) -> Result<(), AllocError>
+// Puts a line of this colour, so thick, after the text.
+pub(crate) fn push_line(
+    out: &mut String,
+    steps: &[Step],
+    ink: Ink,
+    width: u16,
+) -> Result<(), AllocError>
     ensures { OnOk result (string_bytes out.new ≡ string_bytes out.old ++ line_text steps.now ink width) }
 {
     push_path(out, steps, ink, width)?;

@@ -1,5 +1,5 @@
 -- The keys of a text, line by line, and what is written of them.
-use Rattle.std.proofs.Common.{◌≡◌, ◌∙◌, ℕ, ◌+◌, ◌<◌, List, [], ◌∷◌, ◌++◌, length, true, false, Option, Some, None, Result, Ok, Err, inl, inr, ap, refl, sym, subst, arith, append_assoc, append-nil, length-append}
+use Rattle.std.proofs.Common.{◌≡◌, ◌∙◌, ℕ, suc, ◌+◌, ◌^◌, ◌<◌, List, [], ◌∷◌, ◌++◌, length, true, false, Option, Some, None, Result, Ok, Err, inl, inr, ap, refl, sym, subst, arith, append_assoc, append-nil, length-append}
 use Rattle.std.specs.Io.KnownBytes.{Appends}
 use Rattle.std.specs.Option.{option_to_list}
 use Rattle.std.proofs.lemmas.List.{map-append}
@@ -109,11 +109,12 @@ begun-none limit office f None start out begun = tt
 begun-none limit office writing.Write (Some text) start out begun = nothing-begun limit office text start out begun
 begun-none limit office writing.NoMemory (Some text) start out begun = nothing-begun limit office text start out begun
 
--- so far these keys of a text were taken, and the next line has this number
+-- so far these keys of a text were taken, and the next line has this number: the lines are counted
 pub record SoFar (n limit : ℕ) (office : Office) (text rest : List ℕ) (start out : Option (List ℕ)) : Type 0 where
   pub keys : List TimedKey
   pub says : keys_of_text text ≡ with_keys keys (keys_from n (text_lines rest))
   pub reads : keys_read (text_lines text) ≡ keys ++ keys_read (text_lines rest)
+  pub lines : length (text_lines text) + 1 ≡ n + length (text_lines rest)
   pub written : HasWritten limit office keys start out
 
 abbrev pub IsSoFar : ℕ → ℕ → Office → Option (List ℕ) → Option (List ℕ) → Option (List ℕ) → Option (List ℕ) → Type 0
@@ -139,7 +140,7 @@ pub so_far-start : (limit : ℕ) (office : Office) (text start out : Option (Lis
     → IsSoFar 1 limit office text text start out
 so_far-start limit office None start out written = tt
 so_far-start limit office (Some text) start out written =
-    record { keys = []; says = sym (with-none _); reads = refl; written = written }
+    record { keys = []; says = sym (with-none _); reads = refl; lines = omega arith; written = written }
 
 -- a line was taken
 pub so_far-line : (n limit : ℕ) (before after : Office) (line : List ℕ) (text rest left start mid out : Option (List ℕ))
@@ -151,6 +152,7 @@ so_far-line n limit before after line (Some text) None left start mid out so is 
 so_far-line n limit before after line (Some text) (Some rest) None start mid out so is takes = absurd is
 so_far-line n limit before after line (Some text) (Some rest) (Some left) start mid out so (inl is) takes =
     let took = takes so.keys so.written in
+    let longer : length (text_lines rest) ≡ suc (length (text_lines left)) = ap length is in
     record {
       keys = so.keys ++ option_to_list took.0;
       says = so.says
@@ -161,6 +163,7 @@ so_far-line n limit before after line (Some text) (Some rest) (Some left) start 
           ∙ ap (λ lines. so.keys ++ keys_read lines) is
           ∙ ap (λ ks. so.keys ++ ks) (read-line line (text_lines left) (Ok took.0) took.1)
           ∙ read-said so.keys took.0 (keys_read (text_lines left));
+      lines = omega (arith, so.lines, longer);
       written = took.2;
     }
 so_far-line n limit before after line (Some text) (Some rest) (Some left) start mid out so (inr long) takes =
@@ -270,10 +273,10 @@ so_far-fault n limit (fault.File e) before after line (Some text) (Some rest) le
     takes so.keys so.written
 so_far-fault n limit (fault.Table f) before after line (Some text) (Some rest) left start mid out so is takes =
     takes so.keys so.written
-so_far-fault n limit fault.Read before after line (Some text) (Some rest) left start mid out so is takes =
-    began n limit before after line text rest left start mid out so is takes
+so_far-fault n limit (fault.Read unread) before after line (Some text) (Some rest) left start mid out so is takes =
+    absurd (takes so.keys so.written)
 so_far-fault n limit fault.TooMany before after line (Some text) (Some rest) left start mid out so is takes =
-    began n limit before after line text rest left start mid out so is takes
+    absurd (takes so.keys so.written)
 so_far-fault n limit fault.NoMemory before after line (Some text) (Some rest) left start mid out so is takes =
     began n limit before after line text rest left start mid out so is takes
 so_far-fault n limit fault.Write before after line (Some text) (Some rest) left start mid out so is takes =
@@ -299,14 +302,15 @@ pub so_far-read : (n limit : ℕ) (f : ReadingFault) (office : Office) (text res
     → IsSoFar n limit office text rest start out → Comes limit office text (Err (of_reading f)) start out
 so_far-read n limit f office None rest start out so = tt
 so_far-read n limit f office (Some text) None start out so = absurd so
-so_far-read n limit reading.Read office (Some text) (Some rest) start out so = stopped n limit office text rest start out so
+so_far-read n limit (reading.Read unread) office (Some text) (Some rest) start out so = stopped n limit office text rest start out so
 so_far-read n limit reading.NoMemory office (Some text) (Some rest) start out so = stopped n limit office text rest start out so
 
 pub so_far-many : (n limit : ℕ) (office : Office) (text rest start out : Option (List ℕ))
-    → IsSoFar n limit office text rest start out → Comes limit office text (Err fault.TooMany) start out
-so_far-many n limit office None rest start out so = tt
-so_far-many n limit office (Some text) None start out so = absurd so
-so_far-many n limit office (Some text) (Some rest) start out so = stopped n limit office text rest start out so
+    → 2 ^ 63 < n → IsSoFar n limit office text rest start out → Comes limit office text (Err fault.TooMany) start out
+so_far-many n limit office None rest start out many so = tt
+so_far-many n limit office (Some text) None start out many so = absurd so
+so_far-many n limit office (Some text) (Some rest) start out many so =
+    (omega (arith, many, so.lines), stopped n limit office text rest start out so)
 
 -- the text has ended
 ended-begun : (n limit : ℕ) (office : Office) (line text rest : List ℕ) (left start mid out : Option (List ℕ))
@@ -359,7 +363,7 @@ comes-same limit old new (Some text) result start out form line table comes =
 
 -- a fault of reading or of writing is none of the table
 pub reading-kind : (f : ReadingFault) → IsOfKeys (of_reading f)
-reading-kind reading.Read = tt
+reading-kind (reading.Read unread) = tt
 reading-kind reading.NoMemory = tt
 
 pub writing-kind : (f : WritingFault) → IsOfKeys (of_writing f)

@@ -18,5 +18,5 @@ of_writing writing.Write = fault.Write
 of_writing writing.NoMemory = fault.NoMemory
 
 abbrev pub of_reading : ReadingFault → TandemFault
-of_reading reading.Read = fault.Read
+of_reading (reading.Read unread) = fault.Read unread
 of_reading reading.NoMemory = fault.NoMemory

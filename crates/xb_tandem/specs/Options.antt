@@ -1,9 +1,12 @@
 -- What the words of the command line ask for, as clap reads them.
-use Rattle.std.specs.Prelude.{ℕ, ◌≡◌, ◌&&◌, Bool, true, false, List, if◌then◌else◌, Option, Some, None, codes, nat_lt, option_and_then, option_map, unwrap_or}
+use Rattle.std.specs.Prelude.{ℕ, ◌≡◌, ◌&&◌, Bool, true, false, List, [], if◌then◌else◌, Option, Some, None, codes, nat_lt, option_and_then, option_map, unwrap_or}
 use Rattle.std.specs.Borrow.{Bor}
 use Rattle.std.specs.Str.{bytes_eq}
 use Rattle.clap.specs.Walk.{Row, Text, first_of}
+use Rattle.xb_command.specs.Answers.{Takes}
 use Rattle.xb_command.specs.Given.{ReadsFlag, ReadsNumber, given_by}
+use Rattle.xb_command.specs.declared.asking.Misfit.{Misfit}
+use Rattle.xb_command.specs.declared.table.Call.{Call}
 use Rattle.xb_incoming.specs.declared.key.TheConstants.{TIME_OUT_MS}
 use Rattle.xb_model.specs.declared.line.TheConstants.{LINES}
 use Rattle.xb_tandem.specs.declared.request.Asked.{Asked}
@@ -54,6 +57,11 @@ abbrev pub are_both : Text → Option (Bor Text) → Bool
 are_both table None = is_input table
 are_both table (Some keys) = is_input table && is_input keys.now
 
+-- the same of options
+abbrev pub is_input_twice : Option (Bor Text) → Option (Bor Text) → Bool
+is_input_twice None keys = false
+is_input_twice (Some table) keys = are_both table.now keys
+
 -- what they ask for by this table
 abbrev pub asked_with : Options → Bor Text → Option Asked
 asked_with options table = if are_both table.now options.keys then None
@@ -62,3 +70,27 @@ asked_with options table = if are_both table.now options.keys then None
 -- what they ask for, by which table and of which keys
 abbrev pub asked_by : Options → Option Asked
 asked_by options = option_and_then (asked_with options) options.table
+
+-- what is told to be wrong: this value of this option, for this reason
+pub record Tells (misfit : Misfit) (option value reason : Text) : Type 0 where
+  pub of_option : misfit.option.now ≡ option
+  pub of_value : misfit.value.now ≡ value
+  pub why : misfit.reason.now ≡ reason
+
+-- why options ask for nothing: both would be standard input, and else no more is told
+abbrev pub IsMisfitBy : Bool → Misfit → Type 0
+IsMisfitBy true misfit =
+    Tells misfit (codes "TABLE") (codes "-") (codes "standard input is the table, so the file of KEYS is wanted")
+IsMisfitBy false misfit = Tells misfit (codes "line") [] (codes "the words ask for nothing together")
+
+abbrev pub IsMisfit : Options → Misfit → Type 0
+IsMisfit options misfit = IsMisfitBy (is_input_twice options.table options.keys) misfit
+
+-- the words of a call are taken, and say options that ask for nothing, and this is why
+pub record AskNothing (call : Call) (misfit : Misfit) : Type 0 where
+  pub rows : List Row
+  pub takes : Takes call rows
+  pub options : Options
+  pub says : Say rows options
+  pub asks : asked_by options ≡ None
+  pub why : IsMisfit options misfit

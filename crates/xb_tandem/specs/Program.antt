@@ -1,19 +1,21 @@
 -- What the program does.
-use Rattle.std.specs.Prelude.{ℕ, zero, suc, ◌≡◌, ◌⊎◌, List, [], ◌++◌, codes, decimal, Option, None, Err, Ok}
+use Rattle.std.specs.Prelude.{ℕ, zero, suc, ◌≡◌, ◌⊎◌, List, [], ◌++◌, codes, decimal, Option, Some, Err, Ok}
 use Rattle.std.specs.Io.KnownBytes.{Appends}
 use Rattle.xb_command.specs.Files.{Bytes}
 use Rattle.xb_command.specs.Programs.{Streams}
 use Rattle.xb_command.specs.Telling.{Tells}
-use Rattle.xb_command.specs.Works.{AsksBy, AsksNothing, Rules, file_source}
+use Rattle.xb_command.specs.Works.{AsksBy, Rules, file_source}
 use Rattle.xb_command.specs.declared.table.Program.{Program}
 use Rattle.xb_command.specs.declared.telling.TheConstants.{DONE, FAULT}
 use Rattle.xb_text.specs.Writing.{AppendsBeginning}
+use Rattle.xb_tandem.specs.declared.fault.NoteFault.TheVariants as note
 use Rattle.xb_tandem.specs.declared.fault.TandemFault.{TandemFault}
 use Rattle.xb_tandem.specs.declared.request.Asked.{Asked}
 use Rattle.xb_tandem.specs.declared.request.Form.{Form}
 use Rattle.xb_tandem.specs.declared.request.Form.TheVariants as forms
-use Rattle.xb_tandem.specs.Options.{Say, asked_by}
+use Rattle.xb_tandem.specs.Options.{AskNothing, Say, asked_by}
 use Rattle.xb_tandem.specs.Relaying.{Delivers}
+use Rattle.xb_tandem.specs.FaultTexts.{note_text, tandem_text}
 
 -- the line of a note: how many calls are not in what was written
 abbrev pub note_line : Form → ℕ → List ℕ
@@ -29,8 +31,9 @@ note_of form (suc n) = note_line form (suc n)
 
 -- the note could not be told, and a line was that says so
 abbrev pub IsUntold : Program → Form → ℕ → Option (List ℕ) → Option (List ℕ) → Type 0
-IsUntold program form left old new =
-    (begun : Option (List ℕ)) × AppendsBeginning old begun (note_of form left) × Tells program.name.now None begun new
+IsUntold program form left old new = Tells program.name.now (Some (note_text note.NoMemory)) old new
+    ⊎ ((begun : Option (List ℕ)) × AppendsBeginning old begun (note_of form left)
+    × Tells program.name.now (Some (note_text note.Write)) begun new)
 
 -- what became of the note, and the status
 abbrev pub TellsNote : Program → Form → ℕ → Option (List ℕ) → Option (List ℕ) → ℕ → Type 0
@@ -47,7 +50,7 @@ pub record WritesAll (asked : Asked) (bytes : Bytes) (old new : Streams) : Type 
 pub record HasFault (asked : Asked) (program : Program) (bytes : Bytes) (old new : Streams) : Type 0 where
   pub fault : TandemFault
   pub page : Delivers bytes asked.table.now asked.request old.input (Err fault) old.output new.output
-  pub line : Tells program.name.now None old.errors new.errors
+  pub line : Tells program.name.now (tandem_text fault) old.errors new.errors
 
 -- all was written, and how many calls are not in it could not be told
 pub record HasUntold (asked : Asked) (program : Program) (bytes : Bytes) (old new : Streams) : Type 0 where
@@ -59,7 +62,7 @@ pub record HasUntold (asked : Asked) (program : Program) (bytes : Bytes) (old ne
 abbrev pub by_tandem : Rules Asked
 by_tandem = record {
   Asks = AsksBy Say asked_by;
-  Misfits = λ call misfit. AsksNothing Say asked_by call;
+  Misfits = AskNothing;
   source = λ asked. file_source asked.keys;
   Done = λ asked program bytes old new. WritesAll asked bytes old new;
   Fails = λ asked program bytes old new. HasFault asked program bytes old new ⊎ HasUntold asked program bytes old new;

@@ -1,5 +1,5 @@
 -- What is written of the keys of a text.
-use Rattle.std.specs.Prelude.{ℕ, ◌≡◌, ◌⊎◌, List, [], ◌++◌, Option, Some, None, IfSome, Result, Ok, Err}
+use Rattle.std.specs.Prelude.{ℕ, ◌≡◌, ◌⊎◌, ◌≤◌, ◌^◌, List, [], ◌++◌, length, Option, Some, None, IfSome, Result, Ok, Err}
 use Rattle.std.specs.Io.KnownBytes.{Appends, Keeps}
 use Rattle.std.specs.Option.{option_to_list}
 use Rattle.xb_command.specs.Files.{Bytes}
@@ -41,9 +41,9 @@ TakesLine limit office keys n line (Ok u) start out =
     (key : Option TimedKey) × (key_of_line line ≡ Ok key) × HasWritten limit office (keys ++ option_to_list key) start out
 TakesLine limit office keys n line (Err (fault.TextLine m f)) start out =
     (m ≡ n) × (key_of_line line ≡ Err f) × HasWritten limit office keys start out
-TakesLine limit office keys n line (Err (fault.File error)) start out = ⊥
-TakesLine limit office keys n line (Err (fault.Table f)) start out = ⊥
-TakesLine limit office keys n line (Err f) start out = BeganLine limit office keys line start out
+TakesLine limit office keys n line (Err fault.NoMemory) start out = BeganLine limit office keys line start out
+TakesLine limit office keys n line (Err fault.Write) start out = BeganLine limit office keys line start out
+TakesLine limit office keys n line (Err f) start out = ⊥
 
 -- of the first keys of a text, before its first line that is wrong, the beginning of the page was written
 pub record BeganPage (form : Form) (line limit : ℕ) (table : Outgoing) (text : List ℕ) (old new : Option (List ℕ)) : Type 0 where
@@ -53,7 +53,8 @@ pub record BeganPage (form : Form) (line limit : ℕ) (table : Outgoing) (text :
   pub begun : AppendsBeginning old new (page_of_keys form line limit table first)
 
 -- the page of all keys of a text was written, and so many of their orders are not in it; or the text has a line that is
--- wrong, and just what is told of the keys before it was; or the beginning of the page of its first keys
+-- wrong, and just what is told of the keys before it was; or it has 2^63 lines, or a read, memory or a write failed, and
+-- the beginning of the page of its first keys was
 abbrev pub WritesPage : Form → ℕ → ℕ → Outgoing → List ℕ → Result ℕ TandemFault
     → Option (List ℕ) → Option (List ℕ) → Type 0
 WritesPage form line limit table text (Ok left) old new =
@@ -63,9 +64,12 @@ WritesPage form line limit table text (Ok left) old new =
 WritesPage form line limit table text (Err (fault.TextLine n f)) old new =
     (keys_of_text text ≡ Err (n, f))
     × Appends old new (told_of_keys form line limit table (keys_read (text_lines text)))
-WritesPage form line limit table text (Err (fault.File error)) old new = ⊥
-WritesPage form line limit table text (Err (fault.Table f)) old new = ⊥
-WritesPage form line limit table text (Err f) old new = BeganPage form line limit table text old new
+WritesPage form line limit table text (Err fault.TooMany) old new =
+    (2 ^ 63 ≤ length (text_lines text)) × BeganPage form line limit table text old new
+WritesPage form line limit table text (Err (fault.Read unread)) old new = BeganPage form line limit table text old new
+WritesPage form line limit table text (Err fault.NoMemory) old new = BeganPage form line limit table text old new
+WritesPage form line limit table text (Err fault.Write) old new = BeganPage form line limit table text old new
+WritesPage form line limit table text (Err f) old new = ⊥
 
 -- a fault of the keys or of the output, and not of the table
 abbrev pub IsOfKeys : TandemFault → Type 0

@@ -3,8 +3,8 @@ use Rattle.std.specs.Prelude.{ℕ, ◌≡◌, ◌⊎◌, ◌<◌, ◌+◌, ◌==
 use Rattle.std.specs.Io.KnownBytes.{Consumes, IsAtEnd}
 use Rattle.xb_incoming.specs.declared.key.TimedKey.{TimedKey}
 use Rattle.xb_tandem.specs.declared.fault.LineFault.{LineFault}
+use Rattle.xb_tandem.specs.declared.bytes.Unread.{Unread}
 use Rattle.xb_tandem.specs.declared.fault.ReadingFault.{ReadingFault}
-use Rattle.xb_tandem.specs.declared.fault.ReadingFault.TheVariants as reading
 use Rattle.xb_tandem.specs.declared.lines.TheConstants.{MOST_LINE_BYTES}
 use Rattle.xb_tandem.specs.KeyLines.{Said, key_of_line}
 
@@ -56,10 +56,10 @@ keys_read [] = []
 keys_read (line ∷ lines) = key_read (key_of_line line) (keys_read lines)
 
 -- one byte was read, or none at the end
-abbrev pub ReadsByte : Option (List ℕ) → Option (List ℕ) → Result (Option ℕ) ReadingFault → Type 0
+abbrev pub ReadsByte : Option (List ℕ) → Option (List ℕ) → Result (Option ℕ) Unread → Type 0
 ReadsByte old new (Ok (Some byte)) = Consumes old new (byte ∷ [])
 ReadsByte old new (Ok None) = Consumes old new [] × IsAtEnd new
-ReadsByte old new (Err f) = f ≡ reading.Read
+ReadsByte old new (Err unread) = Unit {0}
 
 -- a text begins with a line that is longer than this, and too long
 abbrev pub IsLong : List ℕ → List ℕ → Type 0

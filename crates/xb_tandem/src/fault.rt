@@ -1,10 +1,11 @@
 // Why a text line says no key, and why an office stops.
 ghost use Rattle.std.specs.Prelude.{◌≡◌};
 
+use crate::bytes::Unread;
 use std::alloc::AllocError;
+use std::fmt;
 use thiserror::Error;
 use xb_command::OpenFault;
-use xb_model::RowFault;
 use xb_outgoing::{OutgoingFault, TableFault};
 use xb_text::WriteFault;
 
@@ -12,27 +13,39 @@ use xb_text::WriteFault;
 #[derive(Clone, Copy, Debug, PartialEq, Eq, Error)]
 pub enum LineFault {
     /// It has more than 65,536 bytes.
-    #[error("is longer than 65536 bytes")]
     TooLong,
     /// It is no JSON object.
-    #[error("is no JSON object")]
     NoObject,
     /// Its member `key` is no name that `mfrx --json` writes.
-    #[error("has a key of no such name")]
     NoName,
     /// It has a key, and `at_ms` or `length_ms` is missing, or no whole number of 64 bits.
-    #[error("has a key without its times, at_ms and length_ms")]
     NoTimes,
     /// Memory ran out.
-    #[error("{}", RowFault::NoMemory)]
     NoMemory,
 }
 
+impl fmt::Display for LineFault {
+    ghost use Rattle.std.specs.Prelude.{Some};
+    ghost use Rattle.xb_tandem.specs.FaultTexts.{line_text};
+
+    ghost output = { λ fault. Some (line_text fault) };
+
+    fn fmt<W: fmt::Write>(&self, f: &mut fmt::Formatter<W>) -> fmt::Result {
+        match self {
+            LineFault::TooLong => f.write_str("is longer than 65536 bytes"),
+            LineFault::NoObject => f.write_str("is no JSON object"),
+            LineFault::NoName => f.write_str("has a key of no such name"),
+            LineFault::NoTimes => f.write_str("has a key without its times, at_ms and length_ms"),
+            LineFault::NoMemory => f.write_str("out of memory"),
+        }
+    }
+}
+
 /// Why a line is not read.
-#[derive(Clone, Copy, Debug, PartialEq, Eq)]
+#[derive(Clone, Copy, Debug)]
 pub(crate) enum ReadingFault {
     /// A read failed, an interrupted one too.
-    Read,
+    Read(Unread),
     /// Memory ran out.
     NoMemory,
 }
@@ -51,37 +64,70 @@ pub(crate) enum WritingFault {
 #[derive(Debug, Drop, Error)]
 pub enum TandemFault<'a> {
     /// The file of the table could not be read, or is no text. Nothing was written.
-    #[error("the route table could not be read: {0}")]
     File(OpenFault<'a>),
     /// The table is refused. Nothing was written.
-    #[error("route table: {0}")]
     Table(OutgoingFault),
     /// A read of the keys failed, an interrupted one too.
-    #[error("the keys could not be read")]
-    Read,
+    Read(Unread),
     /// This text line, from 1, is wrong. The entries were written that the keys before it make certain.
-    #[error("text line {0} {1}")]
     TextLine(u64, LineFault),
     /// There are more text lines than can be counted: more than 2^63.
-    #[error("more than 9223372036854775808 text lines")]
     TooMany,
     /// Memory ran out.
-    #[error("{}", RowFault::NoMemory)]
     NoMemory,
     /// A write or the flush failed, or a write took no byte. The beginning of the page, or of the rows, was written.
-    #[error("the entries could not be written")]
     Write,
+}
+
+impl<'a> fmt::Display for TandemFault<'a> {
+    ghost use Rattle.xb_tandem.specs.FaultTexts.{tandem_text};
+
+    ghost output = { tandem_text };
+
+    fn fmt<W: fmt::Write>(&self, f: &mut fmt::Formatter<W>) -> fmt::Result {
+        match self {
+            TandemFault::File(fault) => write!(f, "the route table could not be read: {fault}"),
+            TandemFault::Table(fault) => write!(f, "route table: {fault}"),
+            TandemFault::Read(_) => f.write_str("the keys could not be read"),
+            TandemFault::TextLine(number, fault) => write!(f, "text line {number} {fault}"),
+            TandemFault::TooMany => f.write_str("more than 9223372036854775808 text lines"),
+            TandemFault::NoMemory => f.write_str("out of memory"),
+            TandemFault::Write => f.write_str("the entries could not be written"),
+        }
+    }
 }
 
 /// Why it is not told how many calls are not in what was written.
 #[derive(Clone, Copy, Debug, PartialEq, Eq, Error)]
 pub(crate) enum NoteFault {
     /// A write or the flush failed, or a write took no byte.
-    #[error("how many calls are not in it could not be told")]
     Write,
     /// Memory ran out.
-    #[error("{}", RowFault::NoMemory)]
     NoMemory,
+}
+
+impl fmt::Display for NoteFault {
+    ghost use Rattle.std.specs.Prelude.{Some};
+    ghost use Rattle.xb_tandem.specs.FaultTexts.{note_text};
+
+    ghost output = { λ fault. Some (note_text fault) };
+
+    fn fmt<W: fmt::Write>(&self, f: &mut fmt::Formatter<W>) -> fmt::Result {
+        match self {
+            NoteFault::Write => f.write_str("how many calls are not in it could not be told"),
+            NoteFault::NoMemory => f.write_str("out of memory"),
+        }
+    }
+}
+
+impl From<Unread> for ReadingFault {
+    ghost use Rattle.xb_tandem.specs.declared.fault.ReadingFault.TheVariants.{Read};
+
+    ghost from_gives = { λ unread e. e ≡ Read unread };
+
+    fn from(unread: Unread) -> ReadingFault {
+        ReadingFault::Read(unread)
+    }
 }
 
 impl From<AllocError> for WritingFault {
@@ -138,7 +184,7 @@ impl<'a> From<ReadingFault> for TandemFault<'a> {
 
     fn from(fault: ReadingFault) -> TandemFault<'a> {
         match fault {
-            ReadingFault::Read => TandemFault::Read,
+            ReadingFault::Read(unread) => TandemFault::Read(unread),
             ReadingFault::NoMemory => TandemFault::NoMemory,
         }
     }

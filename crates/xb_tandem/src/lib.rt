@@ -3,20 +3,24 @@
 //! - `relay`: on `Ok` the writer got exactly the page of the tape of the outcomes of the keys that the text says
 //!   (`keys_of_text`, `outcomes` of `xb_incoming`), by the routes of the table in a file, or the same as JSON objects.
 //!   A text line that is wrong is the first that is, and then just the entries were written that the keys before it
-//!   make certain. On any other fault the beginning of the page of the keys so far was written. An entry is written
-//!   whole with the key that makes it certain, and memory does not grow with the text.
+//!   make certain. On any other fault the beginning of the page of the keys so far was written: that of too many text
+//!   lines comes where there are 2^63. An entry is written whole with the key that makes it certain, and memory does not
+//!   grow with the text.
 //!   `--rows` writes in their place exactly the rows that dial the calls by dial pulses. How many calls are not in what
 //!   was written is returned.
 //! - `laws::pages_are_tapes`: the page is that of the entries that are keyed or refused, as `mfbank` defines them.
 //! - `laws::pulses_are_heard`: the rows dial the numbers that go out by dial pulses, and every office whose plan
 //!   completes them hears exactly these.
+//! - `Unread`: a read that failed. `bytes.rt` alone makes it, so no other fault is told as one.
 //! - `laws::constants`.
 //! - `attend`: the words by the table of the program, and `relay` of the file of keys that they name, or of the input
-//!   (`AttendsBy` of `xb_command`). The table and the keys are not both standard input.
+//!   (`AttendsBy` of `xb_command`). The table and the keys are not both standard input: where the words say so, the line of
+//!   the refusal does (`IsMisfit`).
 //!
 //! What is said of bytes is said of readers whose bytes and writers whose contents a contract can name.
 #![tactic(auto)]
 
+mod bytes;
 mod fault;
 mod key_line;
 pub mod laws;
@@ -30,9 +34,9 @@ mod request;
 mod telling;
 mod words;
 
+pub use bytes::Unread;
 pub use fault::{LineFault, TandemFault};
 pub use lines::MOST_LINE_BYTES;
-pub use program::attend;
 pub use relaying::relay;
 pub use request::{Asked, Form, Request};
 pub use words::PROGRAM;

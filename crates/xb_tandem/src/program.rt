@@ -1,9 +1,5 @@
 // The program: its words, a file and keys in, a status and a page out.
-ghost use Rattle.std.specs.Prelude.{◌≡◌, IfOk, string_bytes, true};
-ghost use Rattle.clap.specs.Faults.{is_simple_and_free};
-ghost use Rattle.xb_command.specs.Programs.{streams};
-ghost use Rattle.xb_command.specs.Tables.{command_by};
-ghost use Rattle.xb_command.specs.Works.{AttendsBy};
+ghost use Rattle.std.specs.Prelude.{◌≡◌, IfOk, string_bytes};
 ghost use Rattle.xb_tandem.specs.Program.{TellsNote, by_tandem, note_of};
 
 use crate::fault::NoteFault;
@@ -13,7 +9,7 @@ use crate::words::{asked_by, misfit_of, options_of};
 use std::alloc::{AllocError, Global};
 use std::io::{Read, Write};
 use xb_command::{
-    Answer, Call, DONE, Files, Program, Source, Work, ask_words, file_source, tell_fault,
+    Answer, Call, DONE, Files, Given, Program, Source, Words, Work, file_source, tell_fault,
 };
 use xb_text::write_whole;
 
@@ -61,12 +57,8 @@ impl<'a> Work<'a> for Asked<'a> {
 
     ghost rules = { by_tandem };
 
-    fn ask(alloc: Global, call: &Call<'a>) -> Result<Asked<'a>, Answer<'a>> {
-        let words = match ask_words(alloc, call) {
-            Ok(words) => words,
-            Err(answer) => return Err(answer),
-        };
-        let options = options_of(&words);
+    fn ask(_alloc: Global, _call: &Call<'a>, words: &Words<'a>) -> Result<Asked<'a>, Answer<'a>> {
+        let options = options_of(words);
         match asked_by(options) {
             Some(asked) => Ok(asked),
             None => Err(Answer::Unfit(misfit_of(options))),
@@ -77,37 +69,19 @@ impl<'a> Work<'a> for Asked<'a> {
         file_source(self.keys)
     }
 
-    fn run<F: Files, R: Read, W: Write, E: Write>(
-        self,
-        alloc: Global,
-        program: &Program<'a>,
-        files: &F,
-        input: &mut R,
-        out: &mut W,
-        err: &mut E,
-    ) -> u8 {
-        match relay(alloc, files, self.table, self.request, input, out) {
-            Ok(left) => tell_note(alloc, err, program, self.request.form, left),
-            Err(fault) => tell_fault(alloc, err, program.name, fault),
-        }
+    fn run<F: Files, R: Read, W: Write, E: Write>(self, given: Given<'_, 'a, F, R, W, E>) -> u8 {
+        let Given {
+            alloc,
+            files,
+            input,
+            out,
+            err,
+            program,
+        } = given;
+        let left = match relay(alloc, files, self.table, self.request, input, out) {
+            Ok(left) => left,
+            Err(fault) => return tell_fault(alloc, err, program.name, fault),
+        };
+        tell_note(alloc, err, program, self.request.form, left)
     }
-}
-
-/// Reads the words of the command line, and by them writes the page of the keys, or what else they ask for, as `relay`
-/// does. How many calls are not in it is one line of `err`, where there are any. It returns the status of the process, as
-/// `attend` of `xb_command` says: a fault too where that line could not be told.
-pub fn attend<F: Files, R: Read, W: Write, E: Write>(
-    alloc: Global,
-    call: &Call<'_>,
-    files: &F,
-    keys: &mut R,
-    out: &mut W,
-    err: &mut E,
-) -> u8
-    requires { is_simple_and_free (command_by call.now.program.now) ≡ true }
-    ensures { AttendsBy by_tandem call.now (F.bytes files.now)
-        (streams (R.remaining keys.old) (W.contents out.old) (E.contents err.old))
-        (streams (R.remaining keys.new) (W.contents out.new) (E.contents err.new)) result }
-{
-    xb_command::attend::<Asked<'_>, F, R, W, E>(alloc, call, files, keys, out, err)
 }

@@ -1,11 +1,11 @@
 // The words of the program, and what they ask for.
 ghost use Rattle.std.specs.Prelude.{◌≡◌};
-ghost use Rattle.xb_tandem.specs.Options.{Say, are_both, asked_by, form_of, is_input, line_of, request_of, timeout_of};
+ghost use Rattle.xb_tandem.specs.Options.{IsMisfit, Say, are_both, asked_by, form_of, is_input, is_input_twice, line_of, request_of, timeout_of};
 
 use crate::request::{Asked, Form, Request};
 use xb_command::{FLAG, Misfit, NOTHING, Program, Value, Word, Words};
 use xb_incoming::TIME_OUT_MS;
-use xb_model::{LINES, LineNo};
+use xb_model::LineNo;
 
 /// The program and its words.
 pub const PROGRAM: Program<'static> = Program {
@@ -109,12 +109,7 @@ pub(crate) fn options_of<'a>(words: &Words<'a>) -> Options<'a>
 fn line_of(given: Option<u32>) -> Option<LineNo>
     ensures { result ≡ line_of given }
 {
-    let line = given.unwrap_or(0);
-    if line < u32::from(LINES) {
-        LineNo::new(line as u16)
-    } else {
-        None
-    }
+    LineNo::of_number(given.unwrap_or(0))
 }
 
 // The time-out that is given, or that of a register.
@@ -169,6 +164,16 @@ fn are_both(table: &str, keys: Option<&str>) -> bool
     }
 }
 
+// The same where a table may be missing.
+fn is_input_twice(table: Option<&str>, keys: Option<&str>) -> bool
+    ensures { result ≡ is_input_twice table.entry keys.entry }
+{
+    match table {
+        Some(table) => are_both(table, keys),
+        None => false,
+    }
+}
+
 // What the options ask for, by which table and of which keys; `None` where there is no table, where it would be standard
 // input and the keys too, where there is no such line, and where objects and rows are asked for.
 pub(crate) fn asked_by<'a>(options: Options<'a>) -> Option<Asked<'a>>
@@ -187,9 +192,12 @@ pub(crate) fn asked_by<'a>(options: Options<'a>) -> Option<Asked<'a>>
 }
 
 // Why options ask for nothing.
-pub(crate) fn misfit_of<'a>(options: Options<'a>) -> Misfit<'a> {
-    match options.table {
-        Some(table) if are_both(table, options.keys) => BOTH,
-        Some(_) | None => NOTHING,
+pub(crate) fn misfit_of<'a>(options: Options<'a>) -> Misfit<'a>
+    ensures { IsMisfit options.entry result }
+{
+    if is_input_twice(options.table, options.keys) {
+        BOTH
+    } else {
+        NOTHING
     }
 }

@@ -9,12 +9,12 @@ use Rattle.xb_model.specs.Rows.{LoopRow}
 use Rattle.xb_rows.specs.WrittenRows.{record_text, text_of_rows}
 use Rattle.xb_deck.specs.MadeDecks.{with_ends}
 use Rattle.xb_office.specs.MadeDecks.{deck_of}
-use Rattle.xb_split.specs.declared.load.Load.{Load}
+use Rattle.xb_parts.specs.declared.load.Load.{Load}
 use Rattle.xb_parts.specs.declared.range.LineRange.{LineRange}
-use Rattle.xb_split.specs.Counts.{AreLoadsOf, row_bytes}
+use Rattle.xb_parts.specs.Counts.{AreLoadsOf, row_bytes}
 use Rattle.xb_parts.specs.Ranges.{Cover, rows_in}
-use Rattle.xb_split.specs.Loads.{Fits}
-use Rattle.xb_split.proofs.CountedRanges.{fitting_ranges_have_few}
+use Rattle.xb_parts.specs.Loads.{Fits}
+use Rattle.xb_parts.proofs.CountedRanges.{fitting_ranges_have_few}
 use Rattle.xb_together.specs.SplitDecks.{IsSmall, LeavesRoom, PlannedDecksMakeThePage, SplitDecksMakeThePage, ranges_of}
 
 -- the bytes of a deck: of its table, its head, and its rows

@@ -15,9 +15,9 @@ use Rattle.xb_office.specs.MadeDecks.{MadeDecksSayTheirPage}
 use Rattle.xb_parts.specs.declared.range.LineRange.{LineRange}
 use Rattle.xb_parts.specs.Ranges.{part_with, rows_in}
 use Rattle.xb_parts.proofs.RangeParts.{ranges_make_parts}
-use Rattle.xb_join.specs.declared.parts_fault.PartsFault.{PartsFault}
-use Rattle.xb_join.specs.Joining.{Given, given_part, given_with, join_of}
-use Rattle.xb_join.proofs.JoinedPages.{parts_make_the_whole}
+use Rattle.xb_parts.specs.declared.parts_fault.PartsFault.{PartsFault}
+use Rattle.xb_parts.specs.Joining.{Given, given_part, given_with, join_of}
+use Rattle.xb_parts.proofs.JoinedPages.{parts_make_the_whole}
 use Rattle.xb_routes.proofs.TableRoutes.{table-routes}
 use Rattle.xb_together.specs.SplitDecks.{HasItsPage, IsSmall, SplitDecksMakeThePage, range_deck, ranges_of}
 

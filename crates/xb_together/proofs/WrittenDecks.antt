@@ -17,11 +17,11 @@ use Rattle.xb_deck.specs.MadeDecks.{with_ends}
 use Rattle.xb_office.specs.DeckPage.{page_of, says}
 use Rattle.xb_parts.specs.declared.range.LineRange.{LineRange}
 use Rattle.xb_parts.specs.Ranges.{Cover, CoverAll, rows_in}
-use Rattle.xb_split.specs.declared.load.Load.{Load}
-use Rattle.xb_split.specs.Counts.{AreLoadsOf, IsLoadOf, counted}
-use Rattle.xb_split.specs.Loads.{Fits}
-use Rattle.xb_split.specs.PartDecks.{deck_of_part, range_at}
-use Rattle.xb_join.specs.Joining.{Given, join_of}
+use Rattle.xb_parts.specs.declared.load.Load.{Load}
+use Rattle.xb_parts.specs.Counts.{AreLoadsOf, IsLoadOf, counted}
+use Rattle.xb_parts.specs.Loads.{Fits}
+use Rattle.xb_parts.specs.PartDecks.{deck_of_part, range_at}
+use Rattle.xb_parts.specs.Joining.{Given, join_of}
 use Rattle.xb_together.specs.SplitDecks.{HasItsPage, LeavesRoom, PlannedDecksMakeThePage, range_deck, ranges_of}
 use Rattle.xb_together.specs.WrittenDecks.{HasPage, WrittenDecksMakeThePage}
 use Rattle.xb_together.proofs.PlannedPages.{Cover-le}

@@ -11,12 +11,12 @@ use Rattle.xb_deck.specs.declared.deck.TheConstants.{MOST_DECK_BYTES}
 use Rattle.xb_deck.specs.MadeDecks.{AreTableLines, with_ends}
 use Rattle.xb_office.specs.DeckPage.{page_of, says}
 use Rattle.xb_office.specs.MadeDecks.{deck_of}
-use Rattle.xb_split.specs.declared.load.Load.{Load}
+use Rattle.xb_parts.specs.declared.load.Load.{Load}
 use Rattle.xb_parts.specs.declared.range.LineRange.{LineRange}
-use Rattle.xb_split.specs.Counts.{AreLoadsOf}
+use Rattle.xb_parts.specs.Counts.{AreLoadsOf}
 use Rattle.xb_parts.specs.Ranges.{CoverAll, rows_in}
-use Rattle.xb_split.specs.Loads.{Fits}
-use Rattle.xb_join.specs.Joining.{Given, join_of}
+use Rattle.xb_parts.specs.Loads.{Fits}
+use Rattle.xb_parts.specs.Joining.{Given, join_of}
 
 -- the ranges of parts
 abbrev pub ranges_of : List Given → List LineRange

@@ -4,9 +4,9 @@ use Rattle.xb_model.specs.Rows.{LoopRow}
 use Rattle.xb_routes.specs.Table.{Table}
 use Rattle.xb_routes.specs.Text.{table_of_text}
 use Rattle.xb_office.specs.DeckPage.{page_of, says}
-use Rattle.xb_split.specs.PartDecks.{Decks}
-use Rattle.xb_split.specs.Splits.{HasRows, IsSplit}
-use Rattle.xb_join.specs.Joining.{Given, join_of}
+use Rattle.xb_parts.specs.PartDecks.{Decks}
+use Rattle.xb_parts.specs.Splits.{HasRows, IsSplit}
+use Rattle.xb_parts.specs.Joining.{Given, join_of}
 use Rattle.xb_together.specs.SplitDecks.{ranges_of}
 
 -- the page of a deck of any length: neither its table nor its rows have a fault, and this is what they make

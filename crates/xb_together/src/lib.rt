@@ -13,7 +13,7 @@
 //! - `split_decks_make_the_page`: for all rows, and ranges that take all lines, the pages that the decks of
 //!   the ranges say, joined, are the page that all rows make. `planned_decks_make_the_page`: the same for the
 //!   ranges of a plan. `written_decks_make_the_page`: the same for the decks that a split of a deck writes
-//!   (`IsSplit` of `xb_split`). The page is that of the deck, which has one, however long it is.
+//!   (`IsSplit` of `xb_parts`). The page is that of the deck, which has one, however long it is.
 #![tactic(auto)]
 
 mod calls;

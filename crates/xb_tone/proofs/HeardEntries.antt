@@ -1,23 +1,16 @@
 -- What is heard of entries that do not cut one another.
-use Rattle.std.proofs.Common.{◌≡◌, ◌∙◌, ℕ, ◌+◌, ◌*◌, ◌-◌, ◌<◌, ◌≤◌, Bool, true, false, List, [], ◌∷◌, ◌++◌, length, length-append, replicate, None, sym, ap, subst, append_assoc, append-nil, arith, refl, ℤ, pos}
+use Rattle.std.proofs.Common.{◌≡◌, ◌∙◌, ℕ, ◌+◌, ◌*◌, ◌-◌, ◌<◌, ◌≤◌, Bool, true, false, List, [], ◌∷◌, ◌++◌, length, length-append, replicate, None, sym, ap, append_assoc, append-nil, arith, refl, ℤ, pos}
 use Rattle.std.specs.List.{AllByRecursion, flat_map}
 use Rattle.std.proofs.lemmas.Bool.{cond-false, cond-true, ltb-false}
 use Rattle.std.proofs.lemmas.Grind.{flat_map-append}
 use Rattle.std.proofs.lemmas.List.{length-replicate, take_all}
-use Rattle.xb_model.specs.declared.key.Key.{Key}
-use Rattle.xb_model.specs.declared.key.Key.TheVariants.{Digit, Kp, St}
-use Rattle.xb_model.specs.declared.key.Tone.{Tone as Pair}
 use Rattle.xb_model.specs.declared.mark.Mark.{Mark}
-use Rattle.xb_model.specs.declared.mark.Mark.TheVariants.{Trunk, Tone, Refused}
 use Rattle.xb_sound.specs.declared.cadence.Cadence.{Cadence}
-use Rattle.xb_sound.specs.Cadences.{IsSetApart, tone_ms}
-use Rattle.xb_sound.specs.HeardKeys.{AreKeyed, frequencies_of, keys_with, pairs_of, pairs_of_mark}
+use Rattle.xb_sound.specs.Cadences.{IsSetApart}
+use Rattle.xb_sound.specs.HeardKeys.{AreKeyed, keys_with, pairs_of, pairs_of_mark}
 use Rattle.xb_sound.specs.Receiver.{heard, heard_after}
-use Rattle.xb_sound.specs.Sines.{pair_sample}
-use Rattle.xb_sound.specs.Sounds.{silence, sound_of, tone_sound}
-use Rattle.xb_sound.proofs.HeardMarks.{keys_are_heard}
-use Rattle.xb_sound.proofs.Insides.{heard_after-tone}
-use Rattle.xb_sound.proofs.KeyWaves.{IsKeyWave, key_wave}
+use Rattle.xb_sound.specs.Sounds.{silence}
+use Rattle.xb_sound.proofs.HeardMarks.{keys_are_heard, marks-heard}
 use Rattle.xb_sound.proofs.Silences.{heard_after-silence}
 use Rattle.xb_tone.specs.declared.entry.PlacedEntry.{PlacedEntry}
 use Rattle.xb_tone.specs.Cuts.{cut_line, cuts, lines_of_cuts}
@@ -26,50 +19,6 @@ use Rattle.xb_tone.specs.Laws.{AllAreHeard}
 use Rattle.xb_tone.specs.Sounds.{entry_sound, sound_after, sound_at, up_to}
 use Rattle.xb_tone.specs.Times.{early_after}
 use Rattle.xb_tone.proofs.Follows.{order-step, silent_first}
-
-tone_is_long : (cadence : Cadence) → IsSetApart cadence → (key : Key) → 81 ≤ tone_ms cadence key * 8
-tone_is_long cadence apart (Digit d) = omega (arith, apart.key)
-tone_is_long cadence apart Kp = omega (arith, apart.kp)
-tone_is_long cadence apart St = omega (arith, apart.key)
-
--- after a tone and the silence behind it
-after_tone : (cadence : Cadence) → IsSetApart cadence → (key : Key) (pair : Pair) → IsKeyWave pair
-    → (silent : ℕ) → 80 ≤ silent → (xs : List ℤ) (later : List (List ℕ))
-    → ((z : ℕ) → 80 ≤ z → heard_after z xs ≡ later)
-    → heard_after silent ((tone_sound pair (tone_ms cadence key) ++ silence cadence.gap_ms) ++ xs)
-    ≡ frequencies_of pair ∷ later
-after_tone cadence apart key pair wave silent enough xs later rest =
-    let n : ℕ = tone_ms cadence key * 8 in
-    let once = heard_after-tone (λ n. pair_sample pair n) wave.wave wave.start n (tone_is_long cadence apart key)
-    silent enough (silence cadence.gap_ms ++ xs) in
-    let gap : 80 ≤ once.left + cadence.gap_ms * 8 = omega (arith, apart.gap) in
-    ap (λ (samples : List ℤ). heard_after silent samples)
-    (append_assoc (tone_sound pair (tone_ms cadence key)) (silence cadence.gap_ms) xs)
-    ∙ once.same
-    ∙ ap (λ (what : List ℕ). what ∷ heard_after once.left (silence cadence.gap_ms ++ xs)) wave.loud
-    ∙ ap (λ (more : List (List ℕ)). frequencies_of pair ∷ more)
-    (heard_after-silence (cadence.gap_ms * 8) once.left xs ∙ rest (once.left + cadence.gap_ms * 8) gap)
-
--- the pairs of marks are heard, and then what comes after them
-marks-heard : (cadence : Cadence) → IsSetApart cadence → (marks : List Mark) → AreKeyed marks
-    → (silent : ℕ) → 80 ≤ silent → (xs : List ℤ) (later : List (List ℕ))
-    → ((z : ℕ) → 80 ≤ z → heard_after z xs ≡ later)
-    → heard_after silent (sound_of cadence marks ++ xs) ≡ pairs_of marks ++ later
-unfolding heard_after
-marks-heard cadence apart [] keyed silent enough xs later rest = rest silent enough
-marks-heard cadence apart (Trunk t ∷ marks) keyed silent enough xs later rest =
-    ap (λ (samples : List ℤ). heard_after silent samples)
-    (append_assoc (silence cadence.lead_ms) (sound_of cadence marks) xs)
-    ∙ heard_after-silence (cadence.lead_ms * 8) silent (sound_of cadence marks ++ xs)
-    ∙ marks-heard cadence apart marks keyed.1 (silent + cadence.lead_ms * 8) (omega arith) xs later rest
-marks-heard cadence apart (Tone key pair ∷ marks) keyed silent enough xs later rest =
-    let wave : IsKeyWave pair = subst IsKeyWave (sym keyed.0.1) (key_wave key keyed.0.0) in
-    let tone = tone_sound pair (tone_ms cadence key) ++ silence cadence.gap_ms in
-    ap (λ (samples : List ℤ). heard_after silent samples) (append_assoc tone (sound_of cadence marks) xs)
-    ∙ after_tone cadence apart key pair wave silent enough (sound_of cadence marks ++ xs) (pairs_of marks ++ later)
-    (λ z h. marks-heard cadence apart marks keyed.1 z h xs later rest)
-marks-heard cadence apart (Refused reason count ∷ marks) keyed silent enough xs later rest =
-    marks-heard cadence apart marks keyed.1 silent enough xs later rest
 
 -- an entry that cuts nothing comes after the end of the one before it
 not_cut : (program : List ℕ) (cadence : Cadence) (entry next : PlacedEntry) (later : List PlacedEntry)

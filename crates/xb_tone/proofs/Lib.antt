@@ -8,4 +8,5 @@ pub mod HeardEntries
 pub mod NoisyKeys
 pub mod MuLawKeys
 pub mod Unset
+pub mod ShapeLaws
 pub mod Placed

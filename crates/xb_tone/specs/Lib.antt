@@ -1,4 +1,5 @@
 pub mod Entries
+pub mod FaultTexts
 pub mod Sounds
 pub mod Times
 pub mod Cuts
@@ -13,4 +14,5 @@ pub mod Placing
 pub mod Sounding
 pub mod Program
 pub mod NoisyKeys
+pub mod ShapeLaws
 pub mod MuLawKeys

@@ -1,13 +1,12 @@
 -- What the words of the command line ask for, as clap reads them.
-use Rattle.std.specs.Prelude.{ℕ, ◌≡◌, ◌||◌, List, Bool, false, if◌then◌else◌, Option, Some, None, bytes_eq, codes, is_some, min, option_map}
+use Rattle.std.specs.Prelude.{ℕ, ◌≡◌, ◌||◌, List, Bool, false, if◌then◌else◌, Option, Some, None, bytes_eq, codes, is_some, option_map}
 use Rattle.std.specs.Option.{option_and_then}
 use Rattle.std.specs.Borrow.{Bor}
 use Rattle.clap.specs.Walk.{Row, Text, first_of}
 use Rattle.xb_command.specs.Answers.{Takes}
 use Rattle.xb_command.specs.Given.{ReadsFlag, ReadsNumber, given_by}
 use Rattle.xb_command.specs.declared.table.Call.{Call}
-use Rattle.xb_sound.specs.Cadences.{standard_cadence}
-use Rattle.xb_sound.specs.declared.cadence.Cadence.{Cadence}
+use Rattle.xb_sound.specs.Cadences.{chosen_cadence}
 use Rattle.xb_tone.specs.declared.request.Asked.{Asked}
 use Rattle.xb_tone.specs.declared.request.Choice.{Choice}
 use Rattle.xb_tone.specs.declared.request.Choice.TheVariants as choice
@@ -45,26 +44,12 @@ choice_of None (Some number) = None
 choice_of (Some line) None = Some (choice.Line line)
 choice_of (Some line) (Some number) = Some (choice.Entry line number)
 
--- a time that is given, up to the longest that is told apart, or else that of the standard
-abbrev pub time_of : Option ℕ → ℕ → ℕ
-time_of None standard = standard
-time_of (Some ms) standard = min ms 65535
-
--- the standard cadence, with each time that is given in place of its own
-abbrev pub cadence_of : Options → Cadence
-cadence_of options = record {
-  lead_ms = time_of options.lead_ms standard_cadence.lead_ms;
-  kp_ms = time_of options.kp_ms standard_cadence.kp_ms;
-  key_ms = time_of options.key_ms standard_cadence.key_ms;
-  gap_ms = time_of options.gap_ms standard_cadence.gap_ms;
-}
-
 -- what the options ask for
 abbrev pub request_of : Options → Option Request
 request_of options =
     option_and_then (λ entries. option_map (λ setting. record {
       choice = entries;
-      cadence = cadence_of options;
+      cadence = chosen_cadence options.lead_ms options.kp_ms options.key_ms options.gap_ms;
       raw = options.raw;
       setting = setting;
     }) (setting_of options.manner)) (choice_of options.line options.entry)

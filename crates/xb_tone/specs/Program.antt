@@ -1,5 +1,5 @@
 -- What the program does.
-use Rattle.std.specs.Prelude.{ℕ, List, Option, None, Err, Ok}
+use Rattle.std.specs.Prelude.{ℕ, List, Option, Some, Err, Ok}
 use Rattle.xb_command.specs.Programs.{Streams}
 use Rattle.xb_command.specs.Telling.{Tells}
 use Rattle.xb_command.specs.Works.{Rules, text_source}
@@ -8,6 +8,7 @@ use Rattle.xb_tone.specs.declared.fault.ToneFault.{ToneFault}
 use Rattle.xb_tone.specs.declared.request.Asked.{Asked}
 use Rattle.xb_tone.specs.Options.{Asks, AsksNothing, named}
 use Rattle.xb_tone.specs.Sounding.{JudgesCadence, Plays}
+use Rattle.xb_tone.specs.FaultTexts.{tone_text}
 
 -- exactly the sound of the calls, or of the keys, was written, and what is cut told
 pub record WritesSound (asked : Asked) (old new : Streams) : Type 0 where
@@ -22,7 +23,7 @@ pub record HasFault (asked : Asked) (program : Program) (old new : Streams) : Ty
   pub judged : JudgesCadence asked.request.cadence (Err fault)
   pub sound : Plays asked.request (named asked.keys) asked.timed (Err fault) old.input new.input old.output
       new.output old.errors told
-  pub line : Tells program.name.now None told new.errors
+  pub line : Tells program.name.now (Some (tone_text fault)) told new.errors
 
 -- what the words ask for, what is read, and what is done
 abbrev pub by_tone : Rules Asked

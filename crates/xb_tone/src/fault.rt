@@ -4,6 +4,7 @@ ghost use Rattle.std.specs.Prelude.{◌≡◌};
 use crate::TextFault;
 use crate::at_fault::AtFault;
 use std::alloc::AllocError;
+use std::fmt;
 use thiserror::Error;
 use xb_page::PageFault;
 use xb_signal::{KeysFault, SignalFault};
@@ -15,41 +16,53 @@ use xb_text::ReadFault;
 #[derive(Clone, Copy, Debug, PartialEq, Eq, Error)]
 pub enum ToneFault {
     /// A time of the cadence is out of its range.
-    #[error("cadence: {0}")]
     Cadence(CadenceFault),
     /// The words of keys make no signal.
-    #[error("keys: {0}")]
     Keys(KeysFault),
     /// A read of the page failed, an interrupted one too.
-    #[error("the page could not be read")]
     Read,
     /// The page has more than 67,108,864 bytes.
-    #[error("the page is longer than 67108864 bytes")]
     TooLong,
     /// The text is no page.
-    #[error("{0}")]
     Page(PageFault),
     /// Entries that lie in time have no sound.
-    #[error("{0}")]
     At(AtFault),
     /// The page has no entry that was asked for.
-    #[error("the page has no such entry")]
     NoEntry,
     /// None of the calls asked for is keyed; a refusal has no tones.
-    #[error("none of the calls asked for is keyed")]
     Refused,
     /// The WAV file would have more than 4,294,967,295 bytes.
-    #[error("the sound is too long for a WAV file")]
     TooLongSound,
     /// Memory ran out before the sound.
-    #[error("out of memory")]
     NoMemory,
     /// Memory ran out in the sound of a page or of entries, the beginning of which was written.
-    #[error("out of memory, after the beginning of the sound")]
     CutShort,
     /// A write or the flush failed, or a write took no byte. The beginning of the sound was written.
-    #[error("the sound could not be written")]
     Write,
+}
+
+impl fmt::Display for ToneFault {
+    ghost use Rattle.std.specs.Prelude.{Some};
+    ghost use Rattle.xb_tone.specs.FaultTexts.{tone_text};
+
+    ghost output = { λ fault. Some (tone_text fault) };
+
+    fn fmt<W: fmt::Write>(&self, f: &mut fmt::Formatter<W>) -> fmt::Result {
+        match self {
+            ToneFault::Cadence(fault) => write!(f, "cadence: {fault}"),
+            ToneFault::Keys(fault) => write!(f, "keys: {fault}"),
+            ToneFault::Read => f.write_str("the page could not be read"),
+            ToneFault::TooLong => f.write_str("the page is longer than 67108864 bytes"),
+            ToneFault::Page(fault) => write!(f, "{fault}"),
+            ToneFault::At(fault) => write!(f, "{fault}"),
+            ToneFault::NoEntry => f.write_str("the page has no such entry"),
+            ToneFault::Refused => f.write_str("none of the calls asked for is keyed"),
+            ToneFault::TooLongSound => f.write_str("the sound is too long for a WAV file"),
+            ToneFault::NoMemory => f.write_str("out of memory"),
+            ToneFault::CutShort => f.write_str("out of memory, after the beginning of the sound"),
+            ToneFault::Write => f.write_str("the sound could not be written"),
+        }
+    }
 }
 
 impl From<CadenceFault> for ToneFault {

@@ -1,6 +1,7 @@
 //! What the definitions give: each law is the contract of a function that does nothing.
 ghost use Rattle.xb_tone.specs.MuLawKeys.{MuLawKeysAreHeard};
 ghost use Rattle.xb_tone.specs.NoisyKeys.{NoOptionsAreStandard, NoisyKeysAreHeard};
+ghost use Rattle.xb_tone.specs.ShapeLaws.{ShapesAreSounded};
 ghost use Rattle.xb_tone.specs.Laws.{AllAreHeard, EachSounds, KeyingsBegin};
 ghost use Rattle.std.specs.Prelude.{◌≡◌};
 ghost use Rattle.xb_tone.specs.declared.text.TheConstants.{MOST_TEXT_BYTES};
@@ -21,6 +22,14 @@ pub fn mu_law_keys_are_heard()
 #[tactic(auto, using(crate::proofs::Unset::no_options_are_standard))]
 pub fn no_options_are_standard()
     ensures { NoOptionsAreStandard }
+{}
+
+/// **A key that is disturbed sounds as was asked for**: each frequency is the nearest whole Hz to the one that is detuned;
+/// the tone that is late is silent for just its ms, while the other one sounds, and then begins; and in a hole nothing
+/// sounds, while before it and after it the key sounds as if there were none.
+#[tactic(auto, using(crate::proofs::ShapeLaws::shapes_are_sounded))]
+pub fn shapes_are_sounded()
+    ensures { ShapesAreSounded }
 {}
 
 /// KP begins at the time of its entry and the lead, as far as later entries leave it, whatever came before.

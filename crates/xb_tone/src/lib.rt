@@ -8,7 +8,8 @@
 //!   loud, and nothing is read.
 //! - `play_at`: the same of entries that lie in time, each at its time; what is cut is told before.
 //! - `attend`: `AttendsBy` of this, beginning at the words as they are typed.
-//! - `laws::mu_law_keys_are_heard`: keys by mu-law are.
+//! - `laws::mu_law_keys_are_heard`: keys by mu-law are. `shapes_are_sounded`: a key that is detuned, with one tone late or
+//!   with a hole, sounds as was asked for.
 //!
 //! Not said: how much memory a run takes.
 //!
@@ -55,7 +56,6 @@ pub use keying::play_keys;
 pub use objects_fault::{LineFault, TextFault};
 pub use placing::play_at;
 pub use playing::play;
-pub use program::attend;
 pub use request::{Asked, Choice, Request};
 pub use sounding::write_placed;
 pub use text::{MOST_TEXT_BYTES, entries_of_text};

@@ -2,6 +2,7 @@
 ghost use Rattle.std.specs.Prelude.{◌≡◌};
 
 use std::alloc::AllocError;
+use std::fmt;
 use thiserror::Error;
 use xb_model::RowFault;
 
@@ -9,32 +10,46 @@ use xb_model::RowFault;
 #[derive(Clone, Copy, Debug, PartialEq, Eq, Error)]
 pub enum LineFault {
     /// It is no JSON object.
-    #[error("is no JSON object")]
     NoObject,
     /// It is no object of an entry, of an event or of the totals, as `mflive --json` writes them.
-    #[error("has no entry, event or totals of mflive --json")]
     NoKind,
     /// It has an entry, and `line`, `entry` or `at_ms` is missing, or no such number.
-    #[error("has an entry without its line, entry and at_ms")]
     NoPlace,
     /// It has a keyed entry, and `trunk` or `sent` is missing, or is no trunk group or no digits.
-    #[error("has a keyed entry without its trunk and sent")]
     NoKeying,
     /// It has a refused entry, and `reason` or `heard` is missing, or is no such.
-    #[error("has a refused entry without its reason and heard")]
     NoRefusal,
     /// It has the totals, and these are not those of the entries before it.
-    #[error("has totals that are not those of the entries")]
     Totals,
     /// It has the totals, and text stands after them.
-    #[error("has the totals, and text stands after them")]
     GoesOn,
     /// There is no such text line, and the one before it has no totals.
-    #[error("is missing: the totals of mflive --json end the entries")]
     NoTotals,
     /// Memory ran out.
-    #[error("{}", RowFault::NoMemory)]
     NoMemory,
+}
+
+impl fmt::Display for LineFault {
+    ghost use Rattle.std.specs.Prelude.{Some};
+    ghost use Rattle.xb_tone.specs.FaultTexts.{line_text};
+
+    ghost output = { λ fault. Some (line_text fault) };
+
+    fn fmt<W: fmt::Write>(&self, f: &mut fmt::Formatter<W>) -> fmt::Result {
+        match self {
+            LineFault::NoObject => f.write_str("is no JSON object"),
+            LineFault::NoKind => f.write_str("has no entry, event or totals of mflive --json"),
+            LineFault::NoPlace => f.write_str("has an entry without its line, entry and at_ms"),
+            LineFault::NoKeying => f.write_str("has a keyed entry without its trunk and sent"),
+            LineFault::NoRefusal => f.write_str("has a refused entry without its reason and heard"),
+            LineFault::Totals => f.write_str("has totals that are not those of the entries"),
+            LineFault::GoesOn => f.write_str("has the totals, and text stands after them"),
+            LineFault::NoTotals => f.write_str(
+                "is missing: the totals of mflive --json end the entries",
+            ),
+            LineFault::NoMemory => f.write_str("out of memory"),
+        }
+    }
 }
 
 /// Why a text tells no entries.

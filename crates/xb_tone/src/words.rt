@@ -1,6 +1,6 @@
 // The words of the program, and what they ask for.
 ghost use Rattle.std.specs.Prelude.{◌≡◌, IfErr, IfOk};
-ghost use Rattle.xb_tone.specs.Options.{AskNothing, Say, SayAsked, cadence_of, choice_of, is_idle, is_raw, named, request_by, request_of, time_of};
+ghost use Rattle.xb_tone.specs.Options.{AskNothing, Say, SayAsked, choice_of, is_idle, is_raw, named, request_by, request_of};
 
 use crate::manner::{MOST_NOISE_PEAK, Manner, has_manner, manner_of, setting_of};
 use crate::misfit::misfit_of;
@@ -254,29 +254,6 @@ fn choice_of(line: Option<u32>, entry: Option<u32>) -> Option<Choice>
     }
 }
 
-// A time that is given, up to the longest that is told apart, or else that of the standard.
-fn time_of(given: Option<u32>, standard: u16) -> u16
-    ensures { result ≡ time_of given standard }
-{
-    match given {
-        Some(ms) => ms.min(65_535) as u16,
-        None => standard,
-    }
-}
-
-// The standard cadence, with each time that is given in place of its own.
-fn cadence_of(options: Options<'_>) -> Cadence
-    ensures { result ≡ cadence_of options.entry }
-{
-    let standard = Cadence::standard();
-    Cadence {
-        lead_ms: time_of(options.lead_ms, standard.lead_ms),
-        kp_ms: time_of(options.kp_ms, standard.kp_ms),
-        key_ms: time_of(options.key_ms, standard.key_ms),
-        gap_ms: time_of(options.gap_ms, standard.gap_ms),
-    }
-}
-
 // What the options ask for; `None` where they name an entry without its line, or make no setting.
 fn request_of(options: Options<'_>) -> Option<Request>
     ensures { result ≡ request_of options.entry }
@@ -285,7 +262,12 @@ fn request_of(options: Options<'_>) -> Option<Request>
     let setting = setting_of(options.manner)?;
     Some(Request {
         choice,
-        cadence: cadence_of(options),
+        cadence: Cadence::chosen(
+            options.lead_ms,
+            options.kp_ms,
+            options.key_ms,
+            options.gap_ms,
+        ),
         raw: options.raw,
         setting,
     })

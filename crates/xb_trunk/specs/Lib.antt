@@ -1,3 +1,4 @@
+pub mod FaultTexts
 pub mod Sounded
 pub mod Laws
 pub mod Starts

@@ -1,8 +1,8 @@
 //! What the definitions give: each law is the contract of a function that does nothing.
 ghost use Rattle.xb_trunk.specs.Laws.{CallsSoundWhole, KeysAreHeard, NothingIsTakenBack, TimeIsKept};
 ghost use Rattle.xb_trunk.specs.StartLaws.{EachIsSettledOnce, GivenUpWithoutWink, NoKeyWithoutWink};
-ghost use Rattle.std.specs.Prelude.{◌≡◌};
-ghost use Rattle.xb_trunk.specs.declared.start_dial.TheConstants.{AFTER_WINK, LEAST_WINK, LONGEST_WAIT, MOST_WINK};
+ghost use Rattle.std.specs.Prelude.{◌≡◌, ◌^◌};
+ghost use Rattle.xb_trunk.specs.declared.start_dial.TheConstants.{AFTER_WINK, LEAST_WINK, LONGEST_WAIT, MOST_MS, MOST_WINK};
 
 /// Rows of t ms write 8 t samples.
 #[tactic(auto, using(crate::proofs::Times::time_is_kept))]
@@ -45,10 +45,11 @@ pub fn each_is_settled_once()
     ensures { EachIsSettledOnce }
 {}
 
-/// A wink lasts 100 to 350 ms, a number is keyed 70 ms after it, and given up after 5,000 ms.
+/// A wink lasts 100 to 350 ms, a number is keyed 70 ms after it, and given up after 5,000 ms. Rows may last 2^100 ms.
 pub fn constants()
     ensures least_wink { LEAST_WINK ≡ 100 }
     ensures most_wink { MOST_WINK ≡ 350 }
     ensures after_wink { AFTER_WINK ≡ 70 }
     ensures longest_wait { LONGEST_WAIT ≡ 5000 }
+    ensures most_ms { MOST_MS ≡ 2 ^ 100 }
 {}

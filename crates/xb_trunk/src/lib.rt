@@ -23,12 +23,10 @@
 
 mod fault;
 pub mod laws;
+mod sample_blocks;
 mod start_dial;
 mod trunk;
-mod writing;
 
 pub use fault::TrunkFault;
-pub use start_dial::{
-    AFTER_WINK, Fate, LEAST_WINK, LONGEST_WAIT, MOST_MS, MOST_WINK, Settled, StartDial,
-};
+pub use start_dial::{Fate, Settled, StartDial};
 pub use trunk::Trunk;

@@ -6,19 +6,19 @@ use std::marker::Model;
 use xb_model::{Contact, Mark};
 
 /// The shortest make that is a wink, in ms.
-pub const LEAST_WINK: u128 = 100;
+pub(crate) const LEAST_WINK: u128 = 100;
 
 /// The longest make that is a wink, in ms.
-pub const MOST_WINK: u128 = 350;
+pub(crate) const MOST_WINK: u128 = 350;
 
 /// How long before a number is keyed its wink ended, at least, in ms.
-pub const AFTER_WINK: u128 = 70;
+pub(crate) const AFTER_WINK: u128 = 70;
 
 /// How long a keying waits for its wink, in ms.
 pub const LONGEST_WAIT: u128 = 5_000;
 
 /// The longest that the rows of the lead, or those of the clock, may last in all, in ms.
-pub const MOST_MS: u128 = 1 << 100;
+pub(crate) const MOST_MS: u128 = 1 << 100;
 
 /// What becomes of the keying that waits first, with the end of a row of the clock.
 #[derive(Clone, Copy, Debug, PartialEq, Eq)]

@@ -2,7 +2,7 @@
 ghost use Rattle.std.specs.Prelude.{◌≡◌, ◌≤◌, drop, length, min};
 
 use crate::fault::TrunkFault;
-use crate::writing::{write_silence, write_sound};
+use crate::sample_blocks::{write_silence, write_sound};
 use std::alloc::{AllocError, Global};
 use std::io::Write;
 use std::marker::Model;

@@ -76,22 +76,12 @@ all-more verdicts verdict =
 
 verdict-more : (verdicts : List Verdict) (verdict : Verdict)
     → verdicts_of (verdicts ++ verdict ∷ []) ≡ verdicts_with (verdicts_of verdicts) (Some verdict)
-verdict-more verdicts verdict = all-more verdicts verdict ∙ by verdict
-  where
-    by : (verdict : Verdict) → record {
-      good = one_with (counted (count_by is_good verdicts)) (is_good verdict);
-      pass = one_with (counted (count_by is_pass verdicts)) (is_pass verdict);
-      fast = one_with (counted (count_by is_fast verdicts)) (is_fast verdict);
-      slow = one_with (counted (count_by is_slow verdicts)) (is_slow verdict);
-      high = one_with (counted (count_by is_high verdicts)) (is_high verdict);
-      low = one_with (counted (count_by is_low verdicts)) (is_low verdict);
-    } ≡ verdicts_with (verdicts_of verdicts) (Some verdict)
-    by Good = rw (kept (count_by is_pass verdicts), kept (count_by is_fast verdicts), kept (count_by is_slow verdicts), kept (count_by is_high verdicts), kept (count_by is_low verdicts)) refl
-    by Pass = rw (kept (count_by is_good verdicts), kept (count_by is_fast verdicts), kept (count_by is_slow verdicts), kept (count_by is_high verdicts), kept (count_by is_low verdicts)) refl
-    by Fast = rw (kept (count_by is_good verdicts), kept (count_by is_pass verdicts), kept (count_by is_slow verdicts), kept (count_by is_high verdicts), kept (count_by is_low verdicts)) refl
-    by Slow = rw (kept (count_by is_good verdicts), kept (count_by is_pass verdicts), kept (count_by is_fast verdicts), kept (count_by is_high verdicts), kept (count_by is_low verdicts)) refl
-    by High = rw (kept (count_by is_good verdicts), kept (count_by is_pass verdicts), kept (count_by is_fast verdicts), kept (count_by is_slow verdicts), kept (count_by is_low verdicts)) refl
-    by Low = rw (kept (count_by is_good verdicts), kept (count_by is_pass verdicts), kept (count_by is_fast verdicts), kept (count_by is_slow verdicts), kept (count_by is_high verdicts)) refl
+verdict-more verdicts Good = all-more verdicts Good ∙ rw (kept (count_by is_pass verdicts), kept (count_by is_fast verdicts), kept (count_by is_slow verdicts), kept (count_by is_high verdicts), kept (count_by is_low verdicts)) refl
+verdict-more verdicts Pass = all-more verdicts Pass ∙ rw (kept (count_by is_good verdicts), kept (count_by is_fast verdicts), kept (count_by is_slow verdicts), kept (count_by is_high verdicts), kept (count_by is_low verdicts)) refl
+verdict-more verdicts Fast = all-more verdicts Fast ∙ rw (kept (count_by is_good verdicts), kept (count_by is_pass verdicts), kept (count_by is_slow verdicts), kept (count_by is_high verdicts), kept (count_by is_low verdicts)) refl
+verdict-more verdicts Slow = all-more verdicts Slow ∙ rw (kept (count_by is_good verdicts), kept (count_by is_pass verdicts), kept (count_by is_fast verdicts), kept (count_by is_high verdicts), kept (count_by is_low verdicts)) refl
+verdict-more verdicts High = all-more verdicts High ∙ rw (kept (count_by is_good verdicts), kept (count_by is_pass verdicts), kept (count_by is_fast verdicts), kept (count_by is_slow verdicts), kept (count_by is_low verdicts)) refl
+verdict-more verdicts Low = all-more verdicts Low ∙ rw (kept (count_by is_good verdicts), kept (count_by is_pass verdicts), kept (count_by is_fast verdicts), kept (count_by is_slow verdicts), kept (count_by is_high verdicts)) refl
 
 verdicts-more : (verdicts : List Verdict) (verdict : Option Verdict)
     → verdicts_of (verdicts ++ cons_option verdict []) ≡ verdicts_with (verdicts_of verdicts) verdict

@@ -35,7 +35,7 @@ abbrev Go : List Run → Type 0
 Go [] = Unit {0}
 Go (run ∷ rest) = (1 ≤ run.hold.ticks) × (differs run.hold.level rest ≡ true) × Go rest
 
-abbrev ticks_of : List Run → ℕ
+abbrev pub ticks_of : List Run → ℕ
 ticks_of [] = 0
 ticks_of (run ∷ rest) = run.hold.ticks + ticks_of rest
 
@@ -122,7 +122,7 @@ fewer :
 fewer limits place Closed run = fewer-make limits place run
 fewer limits place Open run = fewer-break limits place run
 
-lasts : (ticks : ℕ) → 1 ≤ ticks → (ticks == 0) ≡ false
+pub lasts : (ticks : ℕ) → 1 ≤ ticks → (ticks == 0) ≡ false
 lasts ticks some = ne_eqb ticks 0 (λ e. absurd (omega (arith, some, e)))
 
 nothing-left : (plan : Plan) (limits : Limits) (place : Place) → [] ≡ digits_at plan limits place []
@@ -283,7 +283,7 @@ go-joined [] last = tt
 go-joined (piece ∷ rest) last =
     go-onto (run_of_piece piece) (joined_runs (map run_of_piece rest)) last.0 (go-joined rest last.1)
 
-ticks-onto : (run : Run) (runs : List Run) → ticks_of (onto_runs run runs) ≡ run.hold.ticks + ticks_of runs
+pub ticks-onto : (run : Run) (runs : List Run) → ticks_of (onto_runs run runs) ≡ run.hold.ticks + ticks_of runs
 ticks-onto run [] = refl
 ticks-onto run (next ∷ rest) = by (same_level run.hold.level next.hold.level)
   where
@@ -293,7 +293,7 @@ ticks-onto run (next ∷ rest) = by (same_level run.hold.level next.hold.level)
     by true = omega arith
     by false = refl
 
-ticks-joined : (pieces : List Piece) → ticks_of (joined_runs (map run_of_piece pieces)) ≡ total_of (holds_in pieces)
+pub ticks-joined : (pieces : List Piece) → ticks_of (joined_runs (map run_of_piece pieces)) ≡ total_of (holds_in pieces)
 ticks-joined [] = refl
 ticks-joined (piece ∷ rest) =
     ticks-onto (run_of_piece piece) (joined_runs (map run_of_piece rest)) ∙ ap (λ n. piece.hold.ticks + n) (ticks-joined rest)

@@ -7,3 +7,5 @@ pub mod Digits
 pub mod DialLaws
 pub mod ReportLaws
 pub mod SumLaws
+pub mod TrainLaws
+pub mod WorkedTrains

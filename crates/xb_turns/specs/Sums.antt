@@ -2,6 +2,7 @@
 use Rattle.std.specs.Prelude.{ℕ, ◌+◌, ◌-◌, ◌*◌, ◌^◌, min, max, List, Bool, true, false, Option, Some, None, cond, is_some, length, map}
 use Rattle.std.specs.List.{count_by, filter_map, fold, reduce, sum}
 use Rattle.xb_contact.specs.declared.scale.Scale.{Scale}
+use Rattle.xb_heard.specs.Figures.{quotient_of}
 use Rattle.xb_turns.specs.declared.dial.Said.{Said}
 use Rattle.xb_turns.specs.declared.dial.Said.TheVariants.{Digit, HungUp}
 use Rattle.xb_turns.specs.declared.windows.Windows.{Windows}
@@ -11,7 +12,7 @@ use Rattle.xb_turns.specs.declared.sums.Verdicts.{Verdicts}
 use Rattle.xb_turns.specs.declared.train.Train.{Train}
 use Rattle.xb_turns.specs.declared.verdict.Verdict.{Verdict}
 use Rattle.xb_turns.specs.declared.verdict.Verdict.TheVariants.{Good, Pass, Fast, Slow, High, Low}
-use Rattle.xb_turns.specs.Figures.{figure_of, share_of, speed_of}
+use Rattle.xb_turns.specs.Figures.{share_of, speed_of}
 use Rattle.xb_turns.specs.Verdicts.{verdict_of}
 
 -- counts stop at 2^64 - 1, and sums of tenths at 2^100 - 1
@@ -32,7 +33,7 @@ series_of figures = record {
 
 -- their mean, of tenths and to a tenth
 abbrev pub mean_of : Series → Option ℕ
-mean_of series = figure_of (summed series.total) (10 * series.count)
+mean_of series = quotient_of (summed series.total) (10 * series.count)
 
 -- how often a verdict is among some
 abbrev pub is_good : Verdict → Bool

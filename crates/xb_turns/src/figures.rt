@@ -1,9 +1,10 @@
 // The figures of pulses, each rounded to a tenth once.
 ghost use Rattle.std.specs.Prelude.{◌≡◌, ◌<◌, ◌≤◌, ◌^◌, ◌*◌};
-ghost use Rattle.xb_turns.specs.Figures.{drift_of, figure_of, share_of, speed_of, tenths_of_ms};
+ghost use Rattle.xb_turns.specs.Figures.{drift_of, share_of, speed_of, tenths_of_ms};
 
 use crate::train::Train;
 use xb_contact::Scale;
+use xb_heard::{quotient_of, share_by, speed_by};
 
 /// So many pulses are a train of which no speed is given.
 pub const MANY_PULSES: usize = 16_777_216;
@@ -25,18 +26,6 @@ pub(crate) fn product(one: u64, other: u64) -> u128
     u128::from(one) * u128::from(other)
 }
 
-/// A quotient in tenths, a half rounded up; `None` by 0, or by 2^64 or more.
-pub(crate) fn figure_of(number: u128, divisor: u128) -> Option<u128>
-    requires { number < 2 ^ 100 }
-    ensures { result ≡ figure_of number divisor }
-{
-    if divisor == 0 || divisor > u128::from(u64::MAX) {
-        None
-    } else {
-        Some((20 * number + divisor) / (2 * divisor))
-    }
-}
-
 /// Pulses a second in tenths, by whole periods: from the first break to the last.
 pub fn speed_of(scale: Scale, train: &Train) -> Option<u128>
     ensures { result ≡ speed_of scale train.now }
@@ -46,10 +35,7 @@ pub fn speed_of(scale: Scale, train: &Train) -> Option<u128>
     }
     let periods = train.pulses.saturating_sub(1) as u64;
     let ticks = train.last.saturating_sub(train.first);
-    figure_of(
-        product(1000 * periods, scale.ticks),
-        product(ticks, scale.ms),
-    )
+    speed_by(product(periods, scale.ticks), product(ticks, scale.ms))
 }
 
 /// How much of the time of whole periods is break, in tenths of a percent.
@@ -57,7 +43,7 @@ pub fn share_of(train: &Train) -> Option<u128>
     ensures { result ≡ share_of train.now }
 {
     let ticks = train.last.saturating_sub(train.first);
-    figure_of(100 * u128::from(train.broken), u128::from(ticks))
+    share_by(u128::from(train.broken), u128::from(ticks))
 }
 
 /// How much longer the last period is than the first, in tenths of a percent of the first; of three pulses or more.
@@ -75,7 +61,7 @@ pub fn drift_of(train: &Train) -> Drift
     let difference = if is_below { first - last } else { last - first };
     Drift {
         is_below,
-        tenths: figure_of(100 * u128::from(difference), u128::from(first)),
+        tenths: quotient_of(100 * u128::from(difference), u128::from(first)),
     }
 }
 
@@ -87,5 +73,5 @@ pub fn tenths_of_ms(scale: Scale, ticks: u64) -> Option<u128>
     if all > u128::from(u64::MAX) {
         return None;
     }
-    figure_of(all, u128::from(scale.ticks))
+    quotient_of(all, u128::from(scale.ticks))
 }

@@ -5,7 +5,8 @@
 //!   a whole record that is what is told of its settled runs (`laws::the_runs_are_told`).
 //! - `laws::the_report_is_told`: the digits are those of the report of `xb_heard`, of the same runs in ms.
 //! - `speed_of`, `share_of`, `drift_of`, `tenths_of_ms`: the figures of a digit, each a quotient of ticks that is rounded
-//!   to a tenth once.
+//!   to a tenth once, by `quotient_of` of `xb_heard`. The speed and the share of break go by whole periods
+//!   (`laws::trains_are_measured`), and are those of the report where a tick is a ms (`laws::figures_are_reported`).
 //! - `verdict_of`: how a dial is judged, by these tenths and the windows alone.
 //! - `Sums` (`sums_of`): what the digits of a line come to (`laws::all_digits_are_summed`).
 #![tactic(auto)]

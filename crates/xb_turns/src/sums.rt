@@ -4,11 +4,12 @@ ghost use Rattle.xb_turns.specs.Sums.{mean_of, or_less, or_more, sums_after, tot
 ghost use Rattle.xb_turns.specs.Sums.{with_digit, with_figure};
 
 use crate::dial::Said;
-use crate::figures::{figure_of, share_of, speed_of};
+use crate::figures::{share_of, speed_of};
 use crate::train::Train;
 use crate::verdict::{Verdict, verdict_of};
 use crate::windows::Windows;
 use xb_contact::Scale;
+use xb_heard::quotient_of;
 
 /// A sum of tenths stops there.
 pub const MOST_TENTHS: u128 = (1 << 100) - 1;
@@ -131,7 +132,7 @@ fn with_figure(series: Series, figure: Option<u128>) -> Series
 pub fn mean_of(series: Series) -> Option<u128>
     ensures { result ≡ mean_of series }
 {
-    figure_of(series.total.min(MOST_TENTHS), 10 * u128::from(series.count))
+    quotient_of(series.total.min(MOST_TENTHS), 10 * u128::from(series.count))
 }
 
 // Verdicts and one more, if it is one.

@@ -1,3 +1,4 @@
+pub mod FaultTexts
 pub mod SentCalls
 pub mod HeardCalls
 pub mod Wears

@@ -1,6 +1,7 @@
 // Rings, and the words of posts.
 use std::alloc::AllocError;
 use std::test::Fail;
+use test_kit::check_texts;
 use xb_ring::{Flow, Post, drained, link};
 
 #[test]
@@ -17,21 +18,19 @@ fn drained_once_all_was_received(rt: HostRuntime) -> Result<(), AllocError> {
     Ok(())
 }
 
+// The word of each post.
+const WORDS: &[(Post, &str)] = &[
+    (Post::Feed, "feed"),
+    (Post::Pulse, "pulse"),
+    (Post::Register, "register"),
+    (Post::Translate, "translate"),
+    (Post::Deal, "deal"),
+    (Post::Send(7), "send 7"),
+    (Post::Gather, "gather"),
+    (Post::Tape, "tape"),
+];
+
 #[test]
 fn words_of_posts(rt: HostRuntime) -> Result<(), Fail> {
-    for (post, word) in [
-        (Post::Feed, "feed"),
-        (Post::Pulse, "pulse"),
-        (Post::Register, "register"),
-        (Post::Translate, "translate"),
-        (Post::Deal, "deal"),
-        (Post::Send(7), "send 7"),
-        (Post::Gather, "gather"),
-        (Post::Tape, "tape"),
-    ] {
-        let mut written = String::new(rt.alloc());
-        write!(&mut written, "{post}")?;
-        assert_eq!(rt; written.as_str(), word);
-    }
-    Ok(())
+    check_texts(rt.alloc(), WORDS)
 }

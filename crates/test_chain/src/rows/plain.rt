@@ -35,11 +35,6 @@ fn check_changes(rt: &impl Abort, alloc: Global, from: usize, to: usize) -> Resu
 }
 
 #[test]
-fn reads_changes_of_the_header_as_in_a_stream(rt: HostRuntime) -> Result<(), AllocError> {
-    check_changes(&rt, rt.alloc(), 0, 14)
-}
-
-#[test]
 fn reads_changes_of_records_as_in_a_stream(rt: HostRuntime) -> Result<(), AllocError> {
     check_changes(&rt, rt.alloc(), 14, 34)
 }
@@ -67,8 +62,11 @@ const OTHERS: &[&[u8]] = &[
 ];
 
 #[test]
-fn reads_other_forms_as_in_a_stream(rt: HostRuntime) {
+fn reads_changes_of_the_header_and_other_forms_as_in_a_stream(
+    rt: HostRuntime,
+) -> Result<(), AllocError> {
     for text in OTHERS {
         check_text(&rt, rt.alloc(), text);
     }
+    check_changes(&rt, rt.alloc(), 0, 14)
 }

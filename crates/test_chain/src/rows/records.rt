@@ -181,14 +181,10 @@ fn check_text(
 }
 
 #[test]
-fn reads_headers(rt: HostRuntime) {
+fn reads_headers_and_records(rt: HostRuntime) -> Result<(), Fail> {
     for (text, wanted, stop) in HEADERS {
         check_text(&rt, rt.alloc(), text, wanted, *stop);
     }
-}
-
-#[test]
-fn reads_records(rt: HostRuntime) -> Result<(), Fail> {
     for (records, wanted, stop) in RECORDS {
         let text = with_header(rt.alloc(), records)?;
         check_text(&rt, rt.alloc(), &text, wanted, *stop);

@@ -24,14 +24,6 @@ fn check_failed_read(rt: &impl Abort, alloc: Global, text: &[u8], kind: ErrorKin
     }
 }
 
-#[test]
-fn fails_where_a_read_fails(rt: HostRuntime) {
-    for text in [ROWS, b"no header\n"] {
-        check_failed_read(&rt, rt.alloc(), text, ErrorKind::Other);
-        check_failed_read(&rt, rt.alloc(), text, ErrorKind::Interrupted);
-    }
-}
-
 // A limit, what reading five bytes to it returns, and how many bytes are then left in the reader.
 const LIMITS: &[(usize, Option<ReadFault>, usize)] = &[
     (6, None, 0),
@@ -66,7 +58,11 @@ fn check_limit(
 }
 
 #[test]
-fn reads_up_to_the_limit(rt: HostRuntime) {
+fn reads_up_to_the_limit_or_a_read_that_fails(rt: HostRuntime) {
+    for text in [ROWS, b"no header\n"] {
+        check_failed_read(&rt, rt.alloc(), text, ErrorKind::Other);
+        check_failed_read(&rt, rt.alloc(), text, ErrorKind::Interrupted);
+    }
     for (limit, fault, left) in LIMITS {
         for step in [1, 2, 9] {
             check_limit(&rt, rt.alloc(), step, *limit, *fault, *left);

@@ -172,14 +172,6 @@ const RECORDS: [(&str, &[Signal], &[Outcome]); 8] = [
     ("a close alone", &[CLOSE], &[]),
 ];
 
-#[test]
-fn attempts_end_in_outcomes(rt: HostRuntime) -> Result<(), Fail> {
-    for (name, signals, wanted) in RECORDS {
-        assert_outcomes(&rt, rt.alloc(), name, Plan::Seven, signals, wanted)?;
-    }
-    Ok(())
-}
-
 // The good digits of an attempt that goes on, and what comes of them in plan Seven and in plan Ten.
 const ATTEMPTS: [(&str, &[u8], &[Outcome], &[Outcome]); 6] = [
     (
@@ -226,8 +218,11 @@ fn dialling(alloc: Global, digits: &[u8]) -> Result<Vec<Signal>, AllocError> {
 }
 
 #[test]
-fn plans_complete_numbers(rt: HostRuntime) -> Result<(), Fail> {
+fn attempts_end_in_outcomes(rt: HostRuntime) -> Result<(), Fail> {
     let alloc = rt.alloc();
+    for (name, signals, wanted) in RECORDS {
+        assert_outcomes(&rt, alloc, name, Plan::Seven, signals, wanted)?;
+    }
     for (name, digits, seven, ten) in ATTEMPTS {
         let signals = dialling(alloc, digits)?;
         assert_outcomes(&rt, alloc, name, Plan::Seven, &signals, seven)?;

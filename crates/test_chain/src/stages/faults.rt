@@ -3,49 +3,29 @@ use crate::stages::tables::check_fault;
 use std::alloc::{AllocError, Global};
 use std::process::Abort;
 use std::test::Fail;
+use test_kit::check_texts;
 use test_kit::decks::{TABLE, joined};
 use xb_routes::{RouteFault, RouteTable};
 
-#[test]
-fn texts_of_faults(rt: HostRuntime) -> Result<(), Fail> {
-    for (fault, text) in [
-        (RouteFault::NotToml, "not TOML"),
-        (RouteFault::Plan, "plan is neither 7 nor 10"),
-        (RouteFault::Limits(4), "limit 4 is wrong"),
-        (RouteFault::TooMany, "more than 1000 routes"),
-        (RouteFault::Shape(0), "route 0 has a wrong shape"),
-        (RouteFault::Code(1), "route 1 has a wrong code"),
-        (RouteFault::Trunk(20), "route 20 has a wrong trunk"),
-        (RouteFault::Delete(300), "route 300 has a wrong delete"),
-        (RouteFault::Prefix(1_000), "route 1000 has a wrong prefix"),
-        (RouteFault::NothingToKey(1), "route 1 keys no digit"),
-        (RouteFault::Twice(2), "route 2 repeats a code"),
-        (RouteFault::NoMemory, "out of memory"),
-    ] {
-        let mut written = String::new(rt.alloc());
-        write!(&mut written, "{fault}")?;
-        assert_eq!(rt; written.as_str(), text, "of {fault:?}");
-    }
-    Ok(())
-}
+// The text of each fault.
+const TEXTS: &[(RouteFault, &str)] = &[
+    (RouteFault::NotToml, "not TOML"),
+    (RouteFault::Plan, "plan is neither 7 nor 10"),
+    (RouteFault::Limits(4), "limit 4 is wrong"),
+    (RouteFault::TooMany, "more than 1000 routes"),
+    (RouteFault::Shape(0), "route 0 has a wrong shape"),
+    (RouteFault::Code(1), "route 1 has a wrong code"),
+    (RouteFault::Trunk(20), "route 20 has a wrong trunk"),
+    (RouteFault::Delete(300), "route 300 has a wrong delete"),
+    (RouteFault::Prefix(1_000), "route 1000 has a wrong prefix"),
+    (RouteFault::NothingToKey(1), "route 1 keys no digit"),
+    (RouteFault::Twice(2), "route 2 repeats a code"),
+    (RouteFault::NoMemory, "out of memory"),
+];
 
 #[test]
-fn texts_that_are_not_toml(rt: HostRuntime) {
-    for text in [
-        "code = ",
-        "[[route]]\ncode = \"0\"\ncode = \"0\"\n",
-        "[[route]]\ncode = \"0\"\ntrunk = 9223372036854775808\n",
-        "route = 3\nroute = 3\n",
-    ] {
-        check_fault(&rt, rt.alloc(), text, RouteFault::NotToml);
-    }
-    for (name, text) in [
-        ("a byte FF", b"\xff".as_slice()),
-        ("a character cut short", b"# \xc3\x28\n".as_slice()),
-    ] {
-        let fault = RouteTable::read(rt.alloc(), text).err();
-        assert_eq!(rt; fault, Some(RouteFault::NotToml), "of {name}");
-    }
+fn texts_of_faults(rt: HostRuntime) -> Result<(), Fail> {
+    check_texts(rt.alloc(), TEXTS)
 }
 
 // Tables whose routes, or one of them, have another form than they may, and values out of range as TOML
@@ -100,6 +80,17 @@ const FAULTS: &[(&str, RouteFault)] = &[
         "[[route]]\ncode = \"0\"\ntrunk = 1\n[[route]]\ncode = \"0\"\ntrunk = 5",
         RouteFault::Twice(2),
     ),
+    // texts that are not TOML
+    ("code = ", RouteFault::NotToml),
+    (
+        "[[route]]\ncode = \"0\"\ncode = \"0\"\n",
+        RouteFault::NotToml,
+    ),
+    (
+        "[[route]]\ncode = \"0\"\ntrunk = 9223372036854775808\n",
+        RouteFault::NotToml,
+    ),
+    ("route = 3\nroute = 3\n", RouteFault::NotToml),
 ];
 
 #[test]
@@ -110,6 +101,13 @@ fn faults_of_tables(rt: HostRuntime) -> Result<(), Fail> {
     let fourth = "[[route]]\ncode = \"234\"\ntrunk = 5\n";
     let text = joined(rt.alloc(), &[TABLE, fourth])?;
     check_fault(&rt, rt.alloc(), &text, RouteFault::Twice(4));
+    for (name, text) in [
+        ("a byte FF", b"\xff".as_slice()),
+        ("a character cut short", b"# \xc3\x28\n".as_slice()),
+    ] {
+        let fault = RouteTable::read(rt.alloc(), text).err();
+        assert_eq!(rt; fault, Some(RouteFault::NotToml), "of {name}");
+    }
     Ok(())
 }
 

@@ -105,14 +105,6 @@ const PAGES: &[(&[(u16, Entry)], &str)] = &[
     ),
 ];
 
-#[test]
-fn pages_of_entries(rt: HostRuntime) -> Result<(), Fail> {
-    for (entries, text) in PAGES {
-        check_page(&rt, rt.alloc(), entries, text)?;
-    }
-    Ok(())
-}
-
 // The beginning of a keyed call.
 fn put_unended(alloc: Global, tapes: &mut Tapes, line: LineNo) -> Result<(), Fail> {
     put(tapes, line, &unended(alloc, 3, &[4, 1])?)?;
@@ -121,7 +113,10 @@ fn put_unended(alloc: Global, tapes: &mut Tapes, line: LineNo) -> Result<(), Fai
 
 // Marks after the last ending mark of a line are no entry.
 #[test]
-fn unended_marks(rt: HostRuntime) -> Result<(), Fail> {
+fn pages_of_entries_and_unended_marks(rt: HostRuntime) -> Result<(), Fail> {
+    for (entries, text) in PAGES {
+        check_page(&rt, rt.alloc(), entries, text)?;
+    }
     let mut tapes = tapes_of(&rt, rt.alloc(), &[(5, Keyed(1, &[0]))])?;
     put_unended(rt.alloc(), &mut tapes, line(&rt, 5))?;
     let text = "0005 1 KEYED 0001 KP:1100+1700 0:1300+1500 ST:1500+1700\n\

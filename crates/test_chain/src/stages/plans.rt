@@ -54,18 +54,17 @@ fn plans_and_limits(rt: HostRuntime) -> Result<(), Fail> {
     let table = table_of(&rt, rt.alloc(), "plan = 10\nname = \"office\"");
     assert_eq!(rt; table.plan(), Plan::Ten);
     for (lines, values) in LIMITS {
-        let [pulse_min, pulse_max, make_min, pause, release, timeout] = *values;
-        let wanted = Limits {
-            pulse_min,
-            pulse_max,
-            make_min,
-            pause,
-            release,
-            timeout,
-        };
         let text = joined(rt.alloc(), &["[limits]\n", lines, "\n"])?;
         let limits = table_of(&rt, rt.alloc(), &text).limits();
-        assert_eq!(rt; limits, wanted, "of {lines}");
+        let held = [
+            limits.pulse_min,
+            limits.pulse_max,
+            limits.make_min,
+            limits.pause,
+            limits.release,
+            limits.timeout,
+        ];
+        assert_eq!(rt; held, *values, "of {lines}");
     }
     for (text, fault) in FAULTS {
         check_fault(&rt, rt.alloc(), text, *fault);

@@ -39,13 +39,17 @@ fn put_entries(alloc: Global, tapes: &mut Tapes, line: LineNo) -> Result<(), Fai
 }
 
 #[test]
-fn entries_of_a_tape(rt: HostRuntime) -> Result<(), Fail> {
+fn tapes_of_one_line_and_of_all(rt: HostRuntime) -> Result<(), Fail> {
     let (first, last) = (line(&rt, 0), line(&rt, 9_999));
     let mut tapes = Tapes::new(rt.alloc())?;
     put_entries(rt.alloc(), &mut tapes, last)?;
     assert_entries(&rt, &tapes, last)?;
     assert!(rt; tapes.marks(first).is_empty());
     assert_eq!(rt; tapes.entries(first), 0);
+    let keyed = operator_marks()?;
+    let mut tapes = Tapes::new(rt.alloc())?;
+    put(&mut tapes, last, &keyed)?;
+    assert_lines(&rt, &tapes, &keyed);
     Ok(())
 }
 
@@ -61,13 +65,4 @@ fn assert_lines(rt: &impl Abort, tapes: &Tapes, last: &[Mark]) {
         lines += 1;
     }
     assert_eq!(rt; lines, 10_000);
-}
-
-#[test]
-fn tapes_of_all_lines(rt: HostRuntime) -> Result<(), Fail> {
-    let keyed = operator_marks()?;
-    let mut tapes = Tapes::new(rt.alloc())?;
-    put(&mut tapes, line(&rt, 9_999), &keyed)?;
-    assert_lines(&rt, &tapes, &keyed);
-    Ok(())
 }

@@ -107,27 +107,32 @@ const LIMITS: [(&str, &[u8], &str); 2] = [
     ),
 ];
 
+// A dial that rests closed, by a pin whose edges are told: a nought.
+const RESTS_CLOSED: &[u8] =
+    b"1.0000 falling gpiochip0 17\n1.0615 rising gpiochip0 17\n1.1000 falling gpiochip0 17\n\
+1.1615 rising gpiochip0 17\n1.2000 falling gpiochip0 17\n1.2615 rising gpiochip0 17\n\
+1.3000 falling gpiochip0 17\n1.3615 rising gpiochip0 17\n1.4000 falling gpiochip0 17\n\
+1.4615 rising gpiochip0 17\n1.5000 falling gpiochip0 17\n1.5615 rising gpiochip0 17\n\
+1.6000 falling gpiochip0 17\n1.6615 rising gpiochip0 17\n1.7000 falling gpiochip0 17\n\
+1.7615 rising gpiochip0 17\n1.8000 falling gpiochip0 17\n1.8615 rising gpiochip0 17\n\
+1.9000 falling gpiochip0 17\n1.9615 rising gpiochip0 17\n3.0000 rising gpiochip0 4\n";
+
+const NOUGHT: &str =
+    "0007      0      10   10.0     61.5         61.5         38.5      0.0        0.0     GOOD
+0007  the recording ends
+0007  digits 1, spoiled 0; p/s 10.0 (10.0); % break 61.5 (61.5); bounce 0.0 ms; GOOD 1
+";
+
 const CASES: [(&[u8], &str); 6] = [GOOD, UNENDED, SPOILED, DRIFT, BOUNCED, IDLE];
 
 #[test]
 fn tells_of_each_digit(rt: HostRuntime) -> Result<(), Fail> {
     for (recording, lines) in CASES {
-        check_lines(&rt, rt.alloc(), &["--wire", "7=1"], recording, BELL, lines)?;
+        check_lines(rt.alloc(), &["--wire", "7=1"], recording, BELL, lines)?;
     }
-    Ok(())
-}
-
-#[test]
-fn goes_by_other_limits(rt: HostRuntime) -> Result<(), Fail> {
     for (limits, recording, lines) in LIMITS {
-        check_lines(
-            &rt,
-            rt.alloc(),
-            &["--wire", "7=1", "--limit", limits],
-            recording,
-            BELL,
-            lines,
-        )?;
+        let words = ["--wire", "7=1", "--limit", limits];
+        check_lines(rt.alloc(), &words, recording, BELL, lines)?;
     }
-    Ok(())
+    check_lines(rt.alloc(), &["--wire", "7=17"], RESTS_CLOSED, BELL, NOUGHT)
 }

@@ -1,7 +1,8 @@
 // The JSON objects of digits, of attempts that end and of what the digits come to: each figure is that of the line.
-use crate::bench::attending::attended;
+use crate::bench::attending::Mfbench;
 use crate::bench::digits::{DRIFT, SPOILED, UNENDED};
 use std::test::Fail;
+use test_kit::{Gives, check_status};
 
 const OF_UNENDED: &str =
     "{\"accept_speed_tenths\":{\"least\":80,\"most\":110},\"adjust_speed_tenths\":{\"least\":95,\"most\":105},\"eve\
@@ -71,16 +72,9 @@ fn tells_objects(rt: HostRuntime) -> Result<(), Fail> {
         (FASTER, OF_FASTER),
     ];
     for (recording, objects) in cases {
-        let mut out = Vec::new(rt.alloc());
-        let mut reader = recording;
         let words = ["--wire", "7=1", "--json"];
-        let (status, told) = attended(rt.alloc(), &words, &mut reader, &mut out)?;
-        assert_eq!(rt; status, 0, "{}", told.escape_ascii());
-        assert!(rt;
-            out.as_slice() == objects.as_bytes(),
-            "{}",
-            out.escape_ascii()
-        );
+        let wanted = Gives::page(objects.as_bytes());
+        check_status(rt.alloc(), &Mfbench, &words, recording, wanted)?;
     }
     Ok(())
 }

@@ -37,7 +37,7 @@ fn reads_the_same_at_each_phase(rt: HostRuntime) -> Result<(), Fail> {
     for phase in 0..20u64 {
         let text = recording_at(rt.alloc(), phase)?;
         let words = ["--wire", "7=1"];
-        check_lines(&rt, rt.alloc(), &words, text.as_bytes(), BELL, LINES)?;
+        check_lines(rt.alloc(), &words, text.as_bytes(), BELL, LINES)?;
     }
     Ok(())
 }

@@ -1,8 +1,9 @@
 // The plot of the digits of a line, and a page of plots: what a program of its own makes of the objects of the same
 // recordings.
-use crate::bench::attending::attended;
+use crate::bench::attending::Mfbench;
 use crate::bench::digits::{DRIFT, SPOILED};
 use std::test::Fail;
+use test_kit::{Gives, check_status};
 
 // Of a digit that is spoiled by each fault, and of a good one.
 const PLOT_OF_SPOILED: &str =
@@ -112,16 +113,9 @@ fn draws_digits(rt: HostRuntime) -> Result<(), Fail> {
         (DRIFT.0, "--html", PAGE_OF_DRIFT),
     ];
     for (recording, form, wanted) in cases {
-        let mut out = Vec::new(rt.alloc());
-        let mut reader = recording;
         let words = ["--wire", "7=1", form];
-        let (status, told) = attended(rt.alloc(), &words, &mut reader, &mut out)?;
-        assert_eq!(rt; status, 0, "{}", told.escape_ascii());
-        assert!(rt;
-            out.as_slice() == wanted.as_bytes(),
-            "{}",
-            out.escape_ascii()
-        );
+        let wanted = Gives::page(wanted.as_bytes());
+        check_status(rt.alloc(), &Mfbench, &words, recording, wanted)?;
     }
     Ok(())
 }

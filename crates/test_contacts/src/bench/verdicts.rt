@@ -163,17 +163,12 @@ line  digit  pulses    p/s  % break     break ms      make ms  drift %  bounce m
 ];
 
 #[test]
-fn judges_by_bell(rt: HostRuntime) -> Result<(), Fail> {
+fn judges_by_the_windows_of_a_dial(rt: HostRuntime) -> Result<(), Fail> {
     for (recording, lines) in BY_BELL {
-        check_lines(&rt, rt.alloc(), &["--wire", "7=1"], recording, BELL, lines)?;
+        check_lines(rt.alloc(), &["--wire", "7=1"], recording, BELL, lines)?;
     }
-    Ok(())
-}
-
-#[test]
-fn judges_by_words(rt: HostRuntime) -> Result<(), Fail> {
     for (words, recording, first, lines) in BY_WORDS {
-        check_lines(&rt, rt.alloc(), words, recording, first, lines)?;
+        check_lines(rt.alloc(), words, recording, first, lines)?;
     }
     Ok(())
 }

@@ -1,8 +1,8 @@
 // Words that are refused, and recordings and streams that fail.
-use crate::bench::attending::{BELL, attended};
+use crate::bench::attending::{BELL, Mfbench};
 use std::io::ErrorKind;
 use std::test::Fail;
-use test_kit::{Halting, Short};
+use test_kit::{Gives, Halting, Short, attended, check_status, check_streams, run};
 
 const REFUSED: &[&[&str]] = &[
     &[],
@@ -40,7 +40,7 @@ const REFUSED: &[&[&str]] = &[
 ];
 
 // Words with one value that the program does not take, and how the line begins that names it with its option.
-const NAMED: [(&[&str], &str); 6] = [
+const NAMED: &[(&[&str], &str)] = &[
     (
         &["--wire", "7=1", "--wire", "8=2,settle=0"],
         "mfbench: invalid value '8=2,settle=0' for '--wire': ",
@@ -83,29 +83,20 @@ const BEFORE: &str =
 #[test]
 fn refuses_words(rt: HostRuntime) -> Result<(), Fail> {
     for words in REFUSED {
-        let mut out = Vec::new(rt.alloc());
-        let mut reader = WRONG;
-        let (status, told) = attended(rt.alloc(), words, &mut reader, &mut out)?;
-        assert_eq!(rt; status, 2);
-        let is_line = told.starts_with(b"mfbench: ")
-            && told.ends_with(b"; mfbench --help says more\n");
-        assert!(rt; is_line, "{}", told.escape_ascii());
-        assert!(rt; out.is_empty());
+        let gave = attended(rt.alloc(), &Mfbench, words, WRONG)?;
+        assert_eq!(rt; gave.status, 2, "{words:?}");
+        let is_line = gave.line.starts_with(b"mfbench: ")
+            && gave.line.ends_with(b"; mfbench --help says more\n");
+        assert!(rt; is_line, "{words:?}: {}", gave.line.escape_ascii());
+        assert!(rt; gave.written.is_empty(), "{words:?}");
     }
-    Ok(())
-}
-
-#[test]
-fn names_the_value_that_is_none(rt: HostRuntime) -> Result<(), Fail> {
     for (words, line) in NAMED {
-        let mut out = Vec::new(rt.alloc());
-        let mut reader = WRONG;
-        let (status, told) = attended(rt.alloc(), words, &mut reader, &mut out)?;
-        assert_eq!(rt; status, 2);
+        let gave = attended(rt.alloc(), &Mfbench, words, WRONG)?;
+        assert_eq!(rt; gave.status, 2, "{words:?}");
         assert!(rt;
-            told.starts_with(line.as_bytes()),
-            "{}",
-            told.escape_ascii()
+            gave.line.starts_with(line.as_bytes()),
+            "{words:?}: {}",
+            gave.line.escape_ascii()
         );
     }
     Ok(())
@@ -113,44 +104,26 @@ fn names_the_value_that_is_none(rt: HostRuntime) -> Result<(), Fail> {
 
 // The digit whose pause was reached stands there before the fault.
 #[test]
-fn tells_of_what_comes_before_a_fault(rt: HostRuntime) -> Result<(), Fail> {
-    let mut out = Vec::new(rt.alloc());
-    let mut reader = WRONG;
-    let (status, told) = attended(rt.alloc(), WORDS, &mut reader, &mut out)?;
-    assert_eq!(rt; status, 1);
+fn fails_where_the_recording_or_a_stream_fails(rt: HostRuntime) -> Result<(), Fail> {
+    let mut before = BELL.to_string(rt.alloc())?;
+    before.push_str(BEFORE)?;
+    let wanted = Gives {
+        status: 1,
+        written: before.as_bytes(),
+        line: b"mfbench: text line 5: a time was wanted: x,1\n",
+    };
+    check_status(rt.alloc(), &Mfbench, WORDS, WRONG, wanted)?;
+    let gave = attended(rt.alloc(), &Mfbench, MISSING, ONE_WIRE)?;
+    assert_eq!(rt; gave.status, 1);
+    let missing = b"mfbench: the recording has no wire B; ";
     assert!(rt;
-        told.as_slice() == b"mfbench: text line 5: a time was wanted: x,1\n".as_slice(),
+        gave.line.starts_with(missing),
         "{}",
-        told.escape_ascii()
+        gave.line.escape_ascii()
     );
-    assert!(rt; out.starts_with(BELL.as_bytes()));
-    assert!(rt;
-        &out[BELL.len()..] == BEFORE.as_bytes(),
-        "{}",
-        out.escape_ascii()
-    );
-    Ok(())
-}
-
-#[test]
-fn tells_the_first_missing_wire(rt: HostRuntime) -> Result<(), Fail> {
-    let mut out = Vec::new(rt.alloc());
-    let mut reader = ONE_WIRE;
-    let (status, told) = attended(rt.alloc(), MISSING, &mut reader, &mut out)?;
-    assert_eq!(rt; status, 1);
-    assert!(rt;
-        told.starts_with(b"mfbench: the recording has no wire B; ".as_slice()),
-        "{}",
-        told.escape_ascii()
-    );
-    Ok(())
-}
-
-#[test]
-fn fails_where_a_stream_fails(rt: HostRuntime) -> Result<(), Fail> {
-    let mut out = Vec::new(rt.alloc());
+    let mut out = Short::new(rt.alloc(), usize::MAX, None);
     let mut reader = Halting::failing(WRONG, 4, 8, ErrorKind::Other);
-    let (status, told) = attended(rt.alloc(), WORDS, &mut reader, &mut out)?;
+    let (status, told) = run(rt.alloc(), &Mfbench, WORDS, &mut reader, &mut out)?;
     assert_eq!(rt; status, 1);
     assert!(rt;
         told.as_slice() == b"mfbench: the recording could not be read\n".as_slice(),
@@ -158,18 +131,11 @@ fn fails_where_a_stream_fails(rt: HostRuntime) -> Result<(), Fail> {
         told.escape_ascii()
     );
     let mut out = Short::new(rt.alloc(), 5, Some(ErrorKind::Other));
-    let mut reader = WRONG;
-    let (status, told) = attended(rt.alloc(), WORDS, &mut reader, &mut out)?;
-    assert_eq!(rt; status, 1);
-    assert!(rt;
-        told.as_slice() == b"mfbench: the lines could not be written\n".as_slice(),
-        "{}",
-        told.escape_ascii()
-    );
-    assert!(rt;
-        out.taken.as_slice() == b"dial:".as_slice(),
-        "{}",
-        out.taken.escape_ascii()
-    );
-    Ok(())
+    let wanted = Gives {
+        status: 1,
+        written: b"dial:",
+        line: b"mfbench: the lines could not be written\n",
+    };
+    let mut reader = Halting::new(WRONG, 40);
+    check_streams(rt.alloc(), &Mfbench, WORDS, &mut reader, &mut out, wanted)
 }

@@ -1,29 +1,26 @@
-// The program called by words, with files of tests.
+// The program `mflive`, with files of tests.
 use std::alloc::Global;
-use std::io::{Read, Write};
-use test_kit::Folder;
-use xb_command::Call;
-use xb_live::PROGRAM;
+use test_kit::{Folder, Program, Streams, called};
+use xb_command::attend;
+use xb_live::{Asked, PROGRAM};
 
 // The files that there are.
-const FOLDER: Folder = Folder(&[
+pub(crate) const FOLDER: Folder = Folder(&[
     ("day.deck", b"---\nline,state,ms\n7,M,500\n7,B,400\n"),
     ("call.wav", b"RIFF\x24\0\0\0WAVEfmt "),
 ]);
 
-/// What `mflive` does by these words, the program's name first, with streams that are no terminals.
-pub(crate) fn attend<R: Read, W: Write, E: Write>(
-    alloc: Global,
-    words: &[String],
-    deck: &mut R,
-    out: &mut W,
-    err: &mut E,
-) -> u8 {
-    let call = Call {
-        program: &PROGRAM,
-        words,
-        is_typed: false,
-        is_shown: false,
-    };
-    xb_live::attend(alloc, &call, &FOLDER, deck, out, err)
+/// The program `mflive`.
+#[derive(Clone, Copy)]
+pub struct Mflive;
+
+impl Program for Mflive {
+    fn name(&self) -> &'static str {
+        "mflive"
+    }
+
+    fn attend(&self, alloc: Global, words: &[String], streams: Streams<'_, '_>) -> u8 {
+        let Streams { reader, out, err } = streams;
+        attend::<Asked<'_>, _, _, _, _>(alloc, &called(&PROGRAM, words), &FOLDER, reader, out, err)
+    }
 }

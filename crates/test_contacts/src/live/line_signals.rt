@@ -14,6 +14,18 @@ fn hear_on_seven(
     hear(table, line, 7, heard, room)
 }
 
+// Hears this on line 7, which gives so many marks.
+fn gives(
+    rt: &impl Abort,
+    table: &PlainTable,
+    line: &mut PlainLine,
+    heard: HeardSignal,
+    room: &mut [PlainMark],
+    count: usize,
+) {
+    assert_eq!(rt; hear_on_seven(table, line, heard, room).ok(), Some(count));
+}
+
 // What is refused on a line that is not seized.
 fn is_not_seized(
     rt: &impl Abort,
@@ -47,18 +59,8 @@ fn keyed_by_its_last_digit(rt: HostRuntime) -> Result<(), Fail> {
     let mut line = PlainLine::new();
     let mut room = [mark(9, 9, 9, 9); 24];
     is_not_seized(&rt, &table, &mut line, &mut room);
-    assert!(rt;
-        matches!(
-            hear_on_seven(&table, &mut line, HeardSignal::Seizure, &mut room),
-            Ok(0)
-        )
-    );
-    assert!(rt;
-        matches!(
-            hear_on_seven(&table, &mut line, HeardSignal::Digit(0), &mut room),
-            Ok(4)
-        )
-    );
+    gives(&rt, &table, &mut line, HeardSignal::Seizure, &mut room, 0);
+    gives(&rt, &table, &mut line, HeardSignal::Digit(0), &mut room, 4);
     assert_eq!(rt; line.entries, 1);
     let keyed = [
         mark(0, 1, 0, 0),
@@ -78,32 +80,19 @@ fn refused_with_its_good_digits(rt: HostRuntime) -> Result<(), Fail> {
     let mut line = PlainLine::new();
     let mut room = [mark(9, 9, 9, 9); 24];
     let mut digits = [9; 10];
-    assert!(rt;
-        matches!(
-            hear_on_seven(&table, &mut line, HeardSignal::Seizure, &mut room),
-            Ok(0)
-        )
-    );
-    assert!(rt;
-        matches!(
-            hear_on_seven(&table, &mut line, HeardSignal::Digit(2), &mut room),
-            Ok(0)
-        )
-    );
-    assert!(rt;
-        matches!(
-            hear_on_seven(&table, &mut line, HeardSignal::Digit(3), &mut room),
-            Ok(0)
-        )
-    );
+    gives(&rt, &table, &mut line, HeardSignal::Seizure, &mut room, 0);
+    gives(&rt, &table, &mut line, HeardSignal::Digit(2), &mut room, 0);
+    gives(&rt, &table, &mut line, HeardSignal::Digit(3), &mut room, 0);
     assert_eq!(rt; dialled(&line, &mut digits), 2);
     assert_eq!(rt; digits[0], 2);
     assert_eq!(rt; digits[1], 3);
-    assert!(rt;
-        matches!(
-            hear_on_seven(&table, &mut line, HeardSignal::MutilatedDigit, &mut room),
-            Ok(1)
-        )
+    gives(
+        &rt,
+        &table,
+        &mut line,
+        HeardSignal::MutilatedDigit,
+        &mut room,
+        1,
     );
     assert!(rt; is_same(&room[0], &mark(4, 2, 0, 0)));
     assert_eq!(rt; dialled(&line, &mut digits), 0);

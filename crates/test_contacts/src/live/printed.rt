@@ -1,5 +1,5 @@
 // What is printed of a line's rows.
-use crate::live::statuses::Mflive;
+use crate::live::called::Mflive;
 use std::alloc::Global;
 use std::test::Fail;
 use test_kit::decks::deck_of;
@@ -55,23 +55,16 @@ const EVENTS: &[u8] = b"{\"at_ms\":1000,\"event\":\"SEIZED\",\"line\":7}\n\
 \"outcome\":\"REFUSED\",\"reason\":\"TIMEDOUT\"}\n{\"keyed\":0,\"refused\":3}\n";
 
 #[test]
-fn objects_tell_when_and_what_was_dialled(rt: HostRuntime) -> Result<(), Fail> {
+fn tells_when_and_what_was_dialled(rt: HostRuntime) -> Result<(), Fail> {
     let deck = deck_of_line(rt.alloc(), REFUSED)?;
-    let wanted = Gives {
-        status: 0,
-        written: OBJECTS,
-        line: b"",
-    };
-    check_status(rt.alloc(), &Mflive, &["--json"], deck.as_bytes(), wanted)
-}
-
-#[test]
-fn events_tell_each_digit(rt: HostRuntime) -> Result<(), Fail> {
-    let deck = deck_of_line(rt.alloc(), REFUSED)?;
-    let wanted = Gives {
-        status: 0,
-        written: EVENTS,
-        line: b"",
-    };
-    check_status(rt.alloc(), &Mflive, &["--events"], deck.as_bytes(), wanted)
+    for (word, printed) in [("--json", OBJECTS), ("--events", EVENTS)] {
+        check_status(
+            rt.alloc(),
+            &Mflive,
+            &[word],
+            deck.as_bytes(),
+            Gives::page(printed),
+        )?;
+    }
+    Ok(())
 }

@@ -1,12 +1,11 @@
 // The sound of a line's trunk: as many samples as its rows last, and the keys of its calls where they are due.
-use crate::live::called::attend;
+use crate::live::called::Mflive;
 use crate::live::reckoned::{BEGINNING, END, joined};
-use crate::live::statuses::Mflive;
 use std::alloc::Global;
 use std::io::ErrorKind;
 use std::process::Abort;
 use std::test::Fail;
-use test_kit::{Halting, check_writes, words_of};
+use test_kit::{Halting, Short, attended, check_writes, run};
 
 // The words after the program's name, how many samples are written of the deck, and which of them is the first that is
 // not 0.
@@ -27,8 +26,8 @@ const CASES: &[(&[&str], usize, Option<usize>)] = &[
     (&["--sound", "8"], 0, None),
 ];
 
-// Which of the samples that bytes write is the first that is not 0.
-fn first_sound(bytes: &[u8]) -> Option<usize> {
+/// Which of the samples that bytes write is the first that is not 0.
+pub(crate) fn first_sound(bytes: &[u8]) -> Option<usize> {
     let at = bytes.iter().position(|byte| *byte != 0)?;
     Some(at / 2)
 }
@@ -37,14 +36,11 @@ fn first_sound(bytes: &[u8]) -> Option<usize> {
 fn writes_as_many_samples_as_its_rows_last(rt: HostRuntime) -> Result<(), Fail> {
     let deck = joined(rt.alloc(), &[BEGINNING, END])?;
     for (options, samples, first) in CASES {
-        let words = words_of(rt.alloc(), "mflive", options)?;
-        let (mut out, mut err) = (Vec::new(rt.alloc()), Vec::new(rt.alloc()));
-        let mut rest = deck.as_slice();
-        let got = attend(rt.alloc(), &words, &mut rest, &mut out, &mut err);
-        assert_eq!(rt; got, 0);
-        assert_eq!(rt; out.len(), samples * 2);
-        assert_eq!(rt; first_sound(&out), *first);
-        assert!(rt; err.is_empty());
+        let gave = attended(rt.alloc(), &Mflive, options, &deck)?;
+        assert_eq!(rt; gave.status, 0, "{options:?}");
+        assert_eq!(rt; gave.written.len(), samples * 2, "{options:?}");
+        assert_eq!(rt; first_sound(&gave.written), *first, "{options:?}");
+        assert!(rt; gave.line.is_empty(), "{options:?}");
     }
     Ok(())
 }
@@ -60,38 +56,31 @@ const READS: &[(usize, usize)] = &[
 ];
 
 // Reads so many bytes of a deck, and then fails: the samples of the rows before are written, and nothing after them.
-fn check_read(rt: &impl Abort, alloc: Global, words: &[String], deck: &[u8], read: (usize, usize)) {
+fn check_read(
+    rt: &impl Abort,
+    alloc: Global,
+    deck: &[u8],
+    read: (usize, usize),
+) -> Result<(), Fail> {
     let (place, samples) = read;
     let mut reader = Halting::failing(deck, 40, place, ErrorKind::Interrupted);
-    let (mut out, mut err) = (Vec::new(alloc), Vec::new(alloc));
-    let got = attend(alloc, words, &mut reader, &mut out, &mut err);
+    let mut out = Short::new(alloc, usize::MAX, None);
+    let (got, told) = run(alloc, &Mflive, &["--sound", "7"], &mut reader, &mut out)?;
     assert_eq!(rt; got, 1, "{place}");
-    assert_eq!(rt; out.len() / 2, samples, "{place}");
-    assert_eq!(rt; out.len() % 2, 0, "{place}");
+    assert_eq!(rt; out.taken.len() / 2, samples, "{place}");
+    assert_eq!(rt; out.taken.len() % 2, 0, "{place}");
     let line = b"mflive: the deck could not be read\n".as_slice();
-    assert!(rt; err.as_slice() == line, "{place}");
-}
-
-#[test]
-fn writes_the_samples_before_a_read_that_fails(rt: HostRuntime) -> Result<(), Fail> {
-    let words = words_of(rt.alloc(), "mflive", &["--sound", "7"])?;
-    let deck = joined(rt.alloc(), &[BEGINNING, END])?;
-    for read in READS {
-        check_read(&rt, rt.alloc(), &words, &deck, *read);
-    }
+    assert!(rt; told.as_slice() == line, "{place}");
     Ok(())
 }
 
 #[test]
-fn writes_the_beginning_where_a_write_fails(rt: HostRuntime) -> Result<(), Fail> {
+fn writes_the_samples_before_a_stream_that_fails(rt: HostRuntime) -> Result<(), Fail> {
     let deck = joined(rt.alloc(), &[BEGINNING, END])?;
+    for read in READS {
+        check_read(&rt, rt.alloc(), &deck, *read)?;
+    }
     let rooms = [0, 1, 8_000, 40_962, 47_359, 47_999];
-    check_writes(
-        rt.alloc(),
-        &Mflive,
-        &["--sound", "7"],
-        &deck,
-        &rooms,
-        b"mflive: the samples could not be written\n",
-    )
+    let line = b"mflive: the samples could not be written\n";
+    check_writes(rt.alloc(), &Mflive, &["--sound", "7"], &deck, &rooms, line)
 }

@@ -1,10 +1,11 @@
 // The sound of a line whose calls are keyed once a wink of another line came.
-use crate::live::called::attend;
+use crate::live::called::{FOLDER, Mflive};
 use crate::live::reckoned::{BEGINNING, joined};
-use std::alloc::Global;
-use std::process::Abort;
+use crate::live::sounded::first_sound;
 use std::test::Fail;
-use test_kit::words_of;
+use test_kit::{attended, called, words_of};
+use xb_command::attend;
+use xb_live::{Asked, PROGRAM};
 
 // The rows after the first ones, how many samples are written, which of them is the first that is not 0, and how many
 // keyings are given up.
@@ -84,50 +85,43 @@ const CASES: &[(&[u8], usize, Option<usize>, usize)] = &[
 
 const TOLD: &[u8] = b"mflive: keyings of line 7 given up for want of a start: 1\n";
 
-// Which of the samples that bytes write is the first that is not 0.
-fn first_sound(bytes: &[u8]) -> Option<usize> {
-    let at = bytes.iter().position(|byte| *byte != 0)?;
-    Some(at / 2)
-}
-
-fn check_case(
-    rt: &impl Abort,
-    alloc: Global,
-    words: &[String],
-    deck: &[u8],
-    case: (usize, Option<usize>, usize),
-) {
-    let (samples, first, given_up) = case;
-    let (mut out, mut err) = (Vec::new(alloc), Vec::new(alloc));
-    let mut rest = deck;
-    let got = attend(alloc, words, &mut rest, &mut out, &mut err);
-    assert_eq!(rt; got, 0);
-    assert_eq!(rt; out.len() / 2, samples);
-    assert_eq!(rt; out.len() % 2, 0);
-    assert_eq!(rt; first_sound(&out), first);
-    let told = if given_up == 0 { b"".as_slice() } else { TOLD };
-    assert!(rt; err.as_slice() == told);
-}
+const WORDS: &[&str] = &["--sound", "7", "--start", "8"];
 
 #[test]
 fn keys_a_call_once_its_wink_came(rt: HostRuntime) -> Result<(), Fail> {
-    let words = words_of(rt.alloc(), "mflive", &["--sound", "7", "--start", "8"])?;
     for (rows, samples, first, given_up) in CASES {
         let deck = joined(rt.alloc(), &[BEGINNING, rows])?;
-        let case = (*samples, *first, *given_up);
-        check_case(&rt, rt.alloc(), &words, &deck, case);
+        let gave = attended(rt.alloc(), &Mflive, WORDS, &deck)?;
+        assert_eq!(rt; gave.status, 0);
+        assert_eq!(rt; gave.written.len() / 2, *samples, "{}", rows.escape_ascii());
+        assert_eq!(rt; gave.written.len() % 2, 0);
+        assert_eq!(rt;
+            first_sound(&gave.written),
+            *first,
+            "{}",
+            rows.escape_ascii()
+        );
+        let told = if *given_up == 0 { b"".as_slice() } else { TOLD };
+        assert!(rt; gave.line.as_slice() == told, "{}", rows.escape_ascii());
     }
     Ok(())
 }
 
 #[test]
 fn fails_where_the_note_cannot_be_written(rt: HostRuntime) -> Result<(), Fail> {
-    let words = words_of(rt.alloc(), "mflive", &["--sound", "7", "--start", "8"])?;
+    let words = words_of(rt.alloc(), "mflive", WORDS)?;
     let mut out = Vec::new(rt.alloc());
     let mut err = [0u8; 10];
     let mut room = err.as_mut_slice();
     let mut rest = BEGINNING;
-    let got = attend(rt.alloc(), &words, &mut rest, &mut out, &mut room);
+    let got = attend::<Asked<'_>, _, _, _, _>(
+        rt.alloc(),
+        &called(&PROGRAM, &words),
+        &FOLDER,
+        &mut rest,
+        &mut out,
+        &mut room,
+    );
     assert_eq!(rt; got, 1);
     assert_eq!(rt; out.len(), 16_480 * 2);
     Ok(())

@@ -1,33 +1,11 @@
 // Words and decks in; a status, entries, and lines of faults out.
-use crate::live::called::attend;
+use crate::live::called::Mflive;
 use crate::live::reckoned::{
     BEGINNING, END, END_EVENTS, EVENTS, KEYED, LAST, LAST_EVENTS, MARK_OBJECTS, MARKS, OBJECTS,
     REFUSED, TIMED_OBJECTS, joined,
 };
-use std::alloc::Global;
 use std::test::Fail;
-use test_kit::{Gives, Halting, Program, Short, check_status};
-
-/// The program `mflive`.
-#[derive(Clone, Copy)]
-pub struct Mflive;
-
-impl Program for Mflive {
-    fn name(&self) -> &'static str {
-        "mflive"
-    }
-
-    fn attend(
-        &self,
-        alloc: Global,
-        words: &[String],
-        reader: &mut Halting<'_>,
-        out: &mut Short,
-        err: &mut Vec<u8>,
-    ) -> u8 {
-        attend(alloc, words, reader, out, err)
-    }
-}
+use test_kit::{Gives, Refusal, check_refusals, check_status};
 
 // The words after the program's name, the parts of the deck, the status, the parts of what is printed, and
 // what stands on standard error.
@@ -119,48 +97,6 @@ const CASES: &[Case] = &[
         &[],
         b"mflive: route table: plan is neither 7 nor 10\n",
     ),
-    (
-        &["--json", "--since", "noon"],
-        &[BEGINNING],
-        2,
-        &[],
-        b"mflive: invalid value 'noon' for '--since': a time begins with its date, as 2026-11-25T20:00:00Z; mflive --help says more\n",
-    ),
-    (
-        &["--by-key", "--since", "2026-12-31T23:59:58Z"],
-        &[BEGINNING],
-        2,
-        &[],
-        b"mflive: --since wants --json or --events; mflive --help says more\n",
-    ),
-    (
-        &["--events", "--since", "2026-12-31T25:00Z"],
-        &[BEGINNING],
-        2,
-        &[],
-        b"mflive: invalid value '2026-12-31T25:00Z' for '--since': a time has an hour from 00 to 23, as 2026-11-25T20:00:00Z; mflive --help says more\n",
-    ),
-    (
-        &["--events", "--by-key"],
-        &[BEGINNING],
-        2,
-        &[],
-        b"mflive: --events and --by-key do not go together; mflive --help says more\n",
-    ),
-    (
-        &["--by-keys"],
-        &[BEGINNING],
-        2,
-        &[],
-        b"mflive: there is no option '--by-keys'; a similar argument exists: '--by-key'; mflive --help says more\n",
-    ),
-    (
-        &["day.deck", "more"],
-        &[BEGINNING],
-        2,
-        &[],
-        b"mflive: there is one word too many, 'more'; mflive --help says more\n",
-    ),
     (&["--version"], &[BEGINNING], 0, &[b"mflive 0.5\n"], b""),
     (
         &["day.deck"],
@@ -183,10 +119,7 @@ const CASES: &[Case] = &[
         &[],
         b"mflive: call.wav: it is a sound, which mfrx and mfloop take\n",
     ),
-];
-
-// The same of words that ask for a sound, and get none.
-const OF_SOUND: &[Case] = &[
+    // words that ask for a sound, and get none
     (
         &["--sound", "7", "--kp", "0"],
         &[BEGINNING],
@@ -201,89 +134,84 @@ const OF_SOUND: &[Case] = &[
         &[],
         b"mflive: the deck has no line ---\n",
     ),
+];
+
+// Words that are refused.
+const REFUSED_WORDS: &[Refusal] = &[
+    (
+        &["--json", "--since", "noon"],
+        b"mflive: invalid value 'noon' for '--since': a time begins with its date, as 2026-11-25T20:00:00Z; mflive --help says more\n",
+    ),
+    (
+        &["--by-key", "--since", "2026-12-31T23:59:58Z"],
+        b"mflive: --since wants --json or --events; mflive --help says more\n",
+    ),
+    (
+        &["--events", "--since", "2026-12-31T25:00Z"],
+        b"mflive: invalid value '2026-12-31T25:00Z' for '--since': a time has an hour from 00 to 23, as 2026-11-25T20:00:00Z; mflive --help says more\n",
+    ),
+    (
+        &["--events", "--by-key"],
+        b"mflive: --events and --by-key do not go together; mflive --help says more\n",
+    ),
+    (
+        &["--by-keys"],
+        b"mflive: there is no option '--by-keys'; a similar argument exists: '--by-key'; mflive --help says more\n",
+    ),
+    (
+        &["day.deck", "more"],
+        b"mflive: there is one word too many, 'more'; mflive --help says more\n",
+    ),
+];
+
+// The same of words that ask for a sound.
+const NO_SOUND: &[Refusal] = &[
     (
         &["--sound", "10000"],
-        &[BEGINNING],
-        2,
-        &[],
         b"mflive: invalid value '10000' for '--sound <N>': 10000 is not in 0..=9999; mflive --help says more\n",
     ),
     (
         &["--start", "8"],
-        &[BEGINNING],
-        2,
-        &[],
         b"mflive: --start wants --sound; mflive --help says more\n",
     ),
     (
         &["--sound", "7", "--start", "7"],
-        &[BEGINNING],
-        2,
-        &[],
         b"mflive: invalid value '7' for '--start': the E lead of a trunk is another line than the one that sounds; mflive --help says more\n",
     ),
     (
         &["--sound", "7", "--start", "10000"],
-        &[BEGINNING],
-        2,
-        &[],
         b"mflive: invalid value '10000' for '--start <M>': 10000 is not in 0..=9999; mflive --help says more\n",
     ),
     (
         &["--sound", "7", "--json"],
-        &[BEGINNING],
-        2,
-        &[],
         b"mflive: --sound and --json do not go together; mflive --help says more\n",
     ),
     (
         &["--sound", "7", "--by-key"],
-        &[BEGINNING],
-        2,
-        &[],
         b"mflive: --sound and --by-key do not go together; mflive --help says more\n",
     ),
     (
         &["--sound", "7", "--events"],
-        &[BEGINNING],
-        2,
-        &[],
         b"mflive: --sound and --events do not go together; mflive --help says more\n",
     ),
     (
         &["--lead", "0"],
-        &[BEGINNING],
-        2,
-        &[],
         b"mflive: --lead wants --sound; mflive --help says more\n",
     ),
 ];
 
-// Checks what is printed of the parts of a deck.
-fn check_case(alloc: Global, case: &Case) -> Result<(), Fail> {
-    let (words, parts, status, printed, line) = *case;
-    let deck = joined(alloc, parts)?;
-    let written = joined(alloc, printed)?;
-    let wanted = Gives {
-        status,
-        written: &written,
-        line,
-    };
-    check_status(alloc, &Mflive, words, &deck, wanted)
-}
-
 #[test]
 fn prints_what_is_reckoned(rt: HostRuntime) -> Result<(), Fail> {
-    for case in CASES {
-        check_case(rt.alloc(), case)?;
+    for (words, parts, status, printed, line) in CASES {
+        let deck = joined(rt.alloc(), parts)?;
+        let written = joined(rt.alloc(), printed)?;
+        let wanted = Gives {
+            status: *status,
+            written: &written,
+            line,
+        };
+        check_status(rt.alloc(), &Mflive, words, &deck, wanted)?;
     }
-    Ok(())
-}
-
-#[test]
-fn tells_why_nothing_sounds(rt: HostRuntime) -> Result<(), Fail> {
-    for case in OF_SOUND {
-        check_case(rt.alloc(), case)?;
-    }
-    Ok(())
+    check_refusals(rt.alloc(), &Mflive, BEGINNING, REFUSED_WORDS)?;
+    check_refusals(rt.alloc(), &Mflive, BEGINNING, NO_SOUND)
 }

@@ -27,12 +27,14 @@ fn unopened() -> PlainTable {
     };
     PlainTable {
         plan: 0,
-        pulse_min: 0,
-        pulse_max: 0,
-        make_min: 0,
-        pause: 0,
-        release: 0,
-        timeout: 0,
+        limits: Limits {
+            pulse_min: 0,
+            pulse_max: 0,
+            make_min: 0,
+            pause: 0,
+            release: 0,
+            timeout: 0,
+        },
         count: 0,
         routes: [route; 1000],
     }
@@ -147,14 +149,10 @@ fn told_by_a_table_of_values(rt: HostRuntime) {
 }
 
 #[test]
-fn answered_by_numbers(rt: HostRuntime) {
+fn answered_by_numbers_and_printed_without_memory(rt: HostRuntime) {
     assert_eq!(rt; refusal_status(Refusal::Ms), 6);
     assert_eq!(rt; fault_status(RouteFault::Twice(2)), 18);
     assert_eq!(rt; fault_place(RouteFault::Twice(2)), 2);
-}
-
-#[test]
-fn printed_without_memory(rt: HostRuntime) {
     let line = b"0007 1 KEYED 0001 KP:1100+1700 0:1300+1500 ST:1500+1700";
     let mut room = [0; 80];
     match print_entry(7, 1, &keyed(), &mut room) {

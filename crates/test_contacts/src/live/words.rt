@@ -1,5 +1,6 @@
 // The words of each fault, as the table of faults has them.
 use std::test::Fail;
+use test_kit::check_texts;
 use xb_deck::TableFault;
 use xb_live::{EntriesFault, LiveFault};
 use xb_model::RowFault;
@@ -60,13 +61,6 @@ const OF_ENTRIES: &[(EntriesFault, &str)] = &[
 
 #[test]
 fn words_of_faults(rt: HostRuntime) -> Result<(), Fail> {
-    for (fault, words) in WORDS {
-        let written = format!(in rt.alloc(); "{fault}")?;
-        assert_eq!(rt; written.as_str(), *words, "of {fault:?}");
-    }
-    for (fault, words) in OF_ENTRIES {
-        let written = format!(in rt.alloc(); "{fault}")?;
-        assert_eq!(rt; written.as_str(), *words);
-    }
-    Ok(())
+    check_texts(rt.alloc(), WORDS)?;
+    check_texts(rt.alloc(), OF_ENTRIES)
 }

@@ -1,11 +1,9 @@
-// What the program makes of a recording.
+// The program `mfloop`, and the tables that there are.
 use std::alloc::Global;
-use std::io::{Read, Write};
-use std::process::Abort;
 use std::test::Fail;
-use test_kit::{Beside, Folder, shown, words_of};
-use xb_command::Call;
-use xb_loop::{PROGRAM, attend};
+use test_kit::{Fault, Folder, Gives, Program, Streams, check_status};
+use xb_command::{Call, attend};
+use xb_loop::{Asked, PROGRAM};
 
 /// Three route tables: one that is right, one of another release limit, and one that is not TOML.
 pub const TABLES: Folder = Folder(&[
@@ -14,71 +12,36 @@ pub const TABLES: Folder = Folder(&[
     ("wrong.toml", b"route = ["),
 ]);
 
-/// Words, a recording, and what has to stand on standard output and on standard error.
+/// The program `mfloop`.
 #[derive(Clone, Copy)]
-pub struct Case<'a> {
-    /// The words after the program's name.
-    pub words: &'a [&'a str],
-    /// The recording.
-    pub recording: &'a [u8],
-    /// What is printed.
-    pub rows: &'a [u8],
-    /// What is told.
-    pub told: &'a [u8],
+pub struct Mfloop;
+
+impl Program for Mfloop {
+    fn name(&self) -> &'static str {
+        "mfloop"
+    }
+
+    fn attend(&self, alloc: Global, words: &[String], streams: Streams<'_, '_>) -> u8 {
+        let Streams { reader, out, err } = streams;
+        let call = Call {
+            program: &PROGRAM,
+            words,
+            is_typed: false,
+            is_shown: false,
+        };
+        attend::<Asked<'_>, _, _, _, _>(alloc, &call, &TABLES, reader, out, err)
+    }
 }
 
-/// The status of the program for the words after its name and a recording, and what it tells.
-pub fn attended<R: Read, W: Write>(
-    alloc: Global,
-    words: &[&str],
-    reader: &mut R,
-    out: &mut W,
-) -> Result<(u8, Vec<u8>), Fail> {
-    let words = words_of(alloc, "mfloop", words)?;
-    let mut told = Vec::new(alloc);
-    let call = Call {
-        program: &PROGRAM,
-        words: &words,
-        is_typed: false,
-        is_shown: false,
-    };
-    let status = attend(alloc, &call, &TABLES, reader, out, &mut told);
-    Ok((status, told))
-}
-
-/// Checks a status, and what is told.
-pub fn check_told(rt: &impl Abort, got: (u8, &[u8]), status: u8, told: &[u8], of: &[u8]) {
-    let (got_status, got_told) = got;
-    let of = shown(of, 0).escape_ascii();
-    let beside = Beside {
-        came: got_told,
-        wanted: told,
-    };
-    assert_eq!(rt; got_status, status, "{of}: {beside}");
-    assert!(rt; got_told == told, "{of}: {beside}");
-}
-
-/// Checks the status of a recording that is read so, what is printed of it, and what is told.
-pub fn check_reader<R: Read>(
-    rt: &impl Abort,
-    alloc: Global,
-    reader: &mut R,
-    case: &Case<'_>,
-    status: u8,
-) -> Result<(), Fail> {
-    let mut out = Vec::new(alloc);
-    let (got, told) = attended(alloc, case.words, reader, &mut out)?;
-    check_told(rt, (got, &told), status, case.told, case.recording);
-    check_rows(rt, &out, case);
+/// Checks that recordings are refused after their rows are begun with this.
+pub fn check_begun(alloc: Global, begun: &[u8], refused: &[Fault]) -> Result<(), Fail> {
+    for (words, recording, line) in refused {
+        let wanted = Gives {
+            status: 1,
+            written: begun,
+            line,
+        };
+        check_status(alloc, &Mfloop, words, recording, wanted)?;
+    }
     Ok(())
-}
-
-// Checks what is printed.
-fn check_rows(rt: &impl Abort, out: &[u8], case: &Case<'_>) {
-    let of = shown(case.recording, 0).escape_ascii();
-    let beside = Beside {
-        came: out,
-        wanted: case.rows,
-    };
-    assert!(rt; out == case.rows, "{of}: {beside}");
 }

@@ -1,7 +1,7 @@
 // Each form of a recording, from a file of some lines: 10 ms open, and then 20 ms closed.
-use crate::loops::attending::{Case, check_reader};
+use crate::loops::attending::Mfloop;
 use std::test::Fail;
-use test_kit::Halting;
+use test_kit::{Gives, check_pieces};
 
 const ROWS: &[u8] = b"line,state,ms\n7,B,10\n7,M,20\n";
 
@@ -54,6 +54,12 @@ $enddefinitions $end\n$dumpvars\nb0 ab\nbxxxx0000 !\n$end\n#1000\nb1 ab\r\n#3000
         &["--wire", "7=2", "--inverted"],
         b"0,0,1\n0.01,1,0\n0.03,0,0\n",
     ),
+];
+
+// Edges of a contact that rests closed.
+const EDGE_ROWS: &[u8] = b"line,state,ms\n7,M,5\n7,B,10\n7,M,20\n";
+
+const EDGES: &[Form] = &[
     // gpiomon of libgpiod 1 and 2
     (
         &["--wire", "7=17"],
@@ -102,72 +108,44 @@ note\x03\x00\x00\x00abc\x00data\xff\xff\xff\xff\x00\xff\x80\xff\x47\xaf",
     ),
 ];
 
-// What has to come of a recording.
-fn case_of<'a>(words: &'a [&'a str], recording: &'a [u8]) -> Case<'a> {
-    Case {
-        words,
-        recording,
-        rows: ROWS,
-        told: b"",
-    }
-}
-
-#[test]
-fn gives_the_rows_in_any_pieces(rt: HostRuntime) -> Result<(), Fail> {
-    for step in [1, 3, 8_192] {
-        for (words, recording) in TEXTS.iter().chain(SAMPLES) {
-            let mut reader = Halting::new(recording, step);
-            check_reader(&rt, rt.alloc(), &mut reader, &case_of(words, recording), 0)?;
-        }
-    }
-    Ok(())
-}
-
 // The most bytes of a text line that tells the form.
 const LONG_LINE: usize = 2_600;
-
-#[test]
-fn tells_the_form_of_a_long_line_in_any_pieces(rt: HostRuntime) -> Result<(), Fail> {
-    let mut recording = Vec::new(rt.alloc());
-    recording.extend_from_slice(b"$comment ")?;
-    recording.resize(LONG_LINE, b'-')?;
-    recording.extend_from_slice(b" $end\n$timescale 1 ms $end\n$var wire 1 ! D0 $end\n")?;
-    recording.extend_from_slice(b"$enddefinitions $end\n#0 0!\n#10 1!\n#30\n")?;
-    for step in [1, 1_000, 8_192] {
-        let mut reader = Halting::new(&recording, step);
-        let case = case_of(&["--wire", "7=D0"], &recording);
-        check_reader(&rt, rt.alloc(), &mut reader, &case, 0)?;
-    }
-    Ok(())
-}
 
 // More empty lines than are looked at before the form is told.
 const EMPTY_LINES: usize = 131_072;
 
 #[test]
+fn gives_the_rows_in_any_pieces(rt: HostRuntime) -> Result<(), Fail> {
+    let (page, steps) = (Gives::page(ROWS), [1, 3, 8_192]);
+    for (words, recording) in TEXTS.iter().chain(SAMPLES) {
+        check_pieces(rt.alloc(), &Mfloop, words, recording, &steps, page)?;
+    }
+    for (words, recording) in EDGES {
+        let page = Gives::page(EDGE_ROWS);
+        check_pieces(rt.alloc(), &Mfloop, words, recording, &steps, page)?;
+    }
+    let mut recording = Vec::new(rt.alloc());
+    recording.extend_from_slice(b"$comment ")?;
+    recording.resize(LONG_LINE, b'-')?;
+    recording.extend_from_slice(b" $end\n$timescale 1 ms $end\n$var wire 1 ! D0 $end\n")?;
+    recording.extend_from_slice(b"$enddefinitions $end\n#0 0!\n#10 1!\n#30\n")?;
+    let (words, steps) = (["--wire", "7=D0"], [1, 1_000, 8_192]);
+    check_pieces(rt.alloc(), &Mfloop, &words, &recording, &steps, page)
+}
+
+#[test]
 fn gives_up_where_nothing_is_told(rt: HostRuntime) -> Result<(), Fail> {
-    for (count, status, rows, told) in [
-        (EMPTY_LINES - 6, 0, ROWS, b"".as_slice()),
-        (
-            EMPTY_LINES,
-            1,
-            b"".as_slice(),
-            b"mfloop: the recording: the form of the recording cannot be told: give --format\n".as_slice(),
-        ),
+    let untold =
+        b"mfloop: the recording: the form of the recording cannot be told: give --format\n";
+    for (count, wanted) in [
+        (EMPTY_LINES - 6, Gives::page(ROWS)),
+        (EMPTY_LINES, Gives::fault(1, untold)),
     ] {
         let mut recording = Vec::new(rt.alloc());
         recording.resize(count, b'\n')?;
         recording.extend_from_slice(b"1.5,0\n1.51,1\n1.53,1\n")?;
-        for step in [8_191, 8_192] {
-            let mut reader = Halting::new(&recording, step);
-            let case = Case {
-                words: &["--wire", "7=1"],
-                recording: b"empty lines",
-                rows,
-                told,
-            };
-            check_reader(&rt, rt.alloc(), &mut reader, &case, status)?;
-        }
+        let (words, steps) = (["--wire", "7=1"], [8_191, 8_192]);
+        check_pieces(rt.alloc(), &Mfloop, &words, &recording, &steps, wanted)?;
     }
     Ok(())
 }

@@ -1,6 +1,7 @@
 // The wires of a recording: where no line is asked for, and where they are.
-use crate::loops::attending::{Case, check_reader};
+use crate::loops::attending::Mfloop;
 use std::test::Fail;
+use test_kit::{Case, Fault, Gives, check_cases, check_faults, check_status};
 
 // Words, a recording, and its wires.
 type Listed = (&'static [&'static str], &'static [u8], &'static [u8]);
@@ -75,50 +76,14 @@ $enddefinitions $end\n#0 0! 1\"\n#10 1!\n",
     ),
 ];
 
-#[test]
-fn lists_the_wires(rt: HostRuntime) -> Result<(), Fail> {
-    for (words, recording, wires) in LISTED {
-        let mut told = b"mfloop: no line is asked for; the recording has ".to_vec(rt.alloc())?;
-        told.extend_from_slice(wires)?;
-        told.push(b'\n')?;
-        let mut reader = *recording;
-        let case = Case {
-            words,
-            recording,
-            rows: b"",
-            told: &told,
-        };
-        check_reader(&rt, rt.alloc(), &mut reader, &case, 1)?;
-    }
-    Ok(())
-}
-
-#[test]
-fn tells_what_has_no_form(rt: HostRuntime) -> Result<(), Fail> {
-    let mut reader = b"hello\n".as_slice();
-    let case = Case {
-        words: &[],
-        recording: b"hello\n",
-        rows: b"",
-        told: b"mfloop: the recording: the form of the recording cannot be told: give --format\n",
-    };
-    check_reader(&rt, rt.alloc(), &mut reader, &case, 1)
-}
-
-// Words, a recording, the lines of its wires, and what is told.
-type Printed = (
-    &'static [&'static str],
-    &'static [u8],
-    &'static [u8],
-    &'static [u8],
-);
-
-const PRINTED: &[Printed] = &[
+// What is printed of a recording, and what is told.
+const PRINTED: &[Case] = &[
     // edges stand after a tab; an escape in a name is printed as a question mark
     (
         &["--list"],
         b"$timescale 1 ms $end\n$var wire 1 ! D0 $end\n$var wire 1 \" D\x1b1 $end\n$enddefinitions $end\n\
 #0 0! 1\"\n#10 1!\n#20 0!\n#30 1!\n",
+        0,
         b"D0\t3\nD?1\t0\n",
         b"",
     ),
@@ -126,6 +91,7 @@ const PRINTED: &[Printed] = &[
     (
         &["--list"],
         b"$timescale 1 ms $end\n$var wire 1 ! D0 $end\n$var wire 1 \" D1 $end\n$enddefinitions $end\n#0 0! x\"\n",
+        0,
         b"D0\nD1\n",
         b"",
     ),
@@ -133,6 +99,7 @@ const PRINTED: &[Printed] = &[
     (
         &["--list", "--format", "bits", "--rate", "1000"],
         b"\x00\x01\x01\x80",
+        0,
         b"0\t2\n1\t0\n2\t0\n3\t0\n4\t0\n5\t0\n6\t0\n7\t1\n",
         b"",
     ),
@@ -140,37 +107,43 @@ const PRINTED: &[Printed] = &[
     (
         &["--list"],
         b"0,0,0,0,0,0,0,0,0,0,0,0,0,0,0,0,0,0,0,0,0,0,0,0,0,0,0,0,0,0,0,0,0,0\n1,x\n",
+        0,
         b"1\n2\n3\n4\n5\n6\n7\n8\n9\n10\n11\n12\n13\n14\n15\n16\n17\n18\n19\n20\n21\n22\n23\n24\n25\n26\n27\n28\n29\n30\n\
 31\n32\n",
         b"mfloop: the recording has more wires than these 32\n",
     ),
     // none is named
-    (&["--list", "--format", "gpiomon"], b"", b"", b""),
+    (&["--list", "--format", "gpiomon"], b"", 0, b"", b""),
+];
+
+// What has no form, with and without a list.
+const UNTOLD: &[Fault] = &[
+    (
+        &[],
+        b"hello\n",
+        b"mfloop: the recording: the form of the recording cannot be told: give --format\n",
+    ),
+    (
+        &["--list"],
+        b"hello\n",
+        b"mfloop: the recording: the form of the recording cannot be told: give --format\n",
+    ),
 ];
 
 #[test]
-fn prints_the_wires(rt: HostRuntime) -> Result<(), Fail> {
-    for (words, recording, rows, told) in PRINTED {
-        let mut reader = *recording;
-        let case = Case {
-            words,
-            recording,
-            rows,
-            told,
-        };
-        check_reader(&rt, rt.alloc(), &mut reader, &case, 0)?;
+fn lists_the_wires(rt: HostRuntime) -> Result<(), Fail> {
+    for (words, recording, wires) in LISTED {
+        let mut told = b"mfloop: no line is asked for; the recording has ".to_vec(rt.alloc())?;
+        told.extend_from_slice(wires)?;
+        told.push(b'\n')?;
+        let wanted = Gives::fault(1, &told);
+        check_status(rt.alloc(), &Mfloop, words, recording, wanted)?;
     }
     Ok(())
 }
 
 #[test]
-fn prints_no_wires_of_what_has_no_form(rt: HostRuntime) -> Result<(), Fail> {
-    let mut reader = b"hello\n".as_slice();
-    let case = Case {
-        words: &["--list"],
-        recording: b"hello\n",
-        rows: b"",
-        told: b"mfloop: the recording: the form of the recording cannot be told: give --format\n",
-    };
-    check_reader(&rt, rt.alloc(), &mut reader, &case, 1)
+fn prints_the_wires(rt: HostRuntime) -> Result<(), Fail> {
+    check_cases(rt.alloc(), &Mfloop, PRINTED)?;
+    check_faults(rt.alloc(), &Mfloop, UNTOLD)
 }

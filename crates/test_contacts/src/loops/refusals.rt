@@ -1,13 +1,11 @@
 // What is not understood, with its place.
-use crate::loops::attending::{Case, check_reader};
+use crate::loops::attending::{Mfloop, check_begun};
 use std::test::Fail;
+use test_kit::{Fault, check_faults};
 
 const HEADER: &[u8] = b"line,state,ms\n";
 
-// Words, a recording, and the line that says why it is refused.
-type Refused = (&'static [&'static str], &'static [u8], &'static [u8]);
-
-const VCDS: &[Refused] = &[
+const VCDS: &[Fault] = &[
     (
         &["--wire", "7=D0"],
         b"$timescale 1 ms $end\n$var wire 1 ! D0 $end\n$enddefinitions $end\n#0 0!\n#10 x!\n",
@@ -60,7 +58,7 @@ const VCDS: &[Refused] = &[
     ),
 ];
 
-const TABLES: &[Refused] = &[
+const TABLES: &[Fault] = &[
     (
         &["--wire", "7=1"],
         b"RIFF1234WAVEdata1234",
@@ -128,7 +126,7 @@ const ARCHIVE: &[u8] =
     b"mfloop: the recording: this is a ZIP archive: unpack it; of a .sr, sigrok-cli -i FILE -O vcd; export a .sal as CSV from Logic\n";
 
 // Before anything is read.
-const OTHERS: &[Refused] = &[
+const OTHERS: &[Fault] = &[
     (
         &["--wire", "7=1"],
         b"hello\n",
@@ -163,17 +161,7 @@ const OTHERS: &[Refused] = &[
 
 #[test]
 fn names_the_place_of_each_refusal(rt: HostRuntime) -> Result<(), Fail> {
-    for (refused, rows) in [(VCDS, HEADER), (TABLES, HEADER), (OTHERS, b"")] {
-        for (words, recording, told) in refused {
-            let mut reader = *recording;
-            let case = Case {
-                words,
-                recording,
-                rows,
-                told,
-            };
-            check_reader(&rt, rt.alloc(), &mut reader, &case, 1)?;
-        }
-    }
-    Ok(())
+    check_begun(rt.alloc(), HEADER, VCDS)?;
+    check_begun(rt.alloc(), HEADER, TABLES)?;
+    check_faults(rt.alloc(), &Mfloop, OTHERS)
 }

@@ -1,7 +1,8 @@
 // A line that rings, is answered, and calls.
-use crate::loops::attending::{Case, check_reader};
+use crate::loops::attending::Mfloop;
 use std::alloc::Global;
 use std::test::Fail;
+use test_kit::{Gives, check_status};
 
 // A level for so many samples of 1 ms.
 fn hold(samples: &mut Vec<u8>, level: u8, ms: u32) -> Result<(), Fail> {
@@ -99,14 +100,48 @@ const ROWS: &[u8] = b"line,state,ms\n7,B,20000\n7,M,500\n7,B,60\n7,M,600\n\
 fn a_night_gives_its_calls(rt: HostRuntime) -> Result<(), Fail> {
     let samples = night(rt.alloc())?;
     for words in WORDS {
-        let case = Case {
-            words,
-            recording: &samples,
-            rows: ROWS,
-            told: b"",
+        let wanted = Gives {
+            status: 0,
+            written: ROWS,
+            line: b"line 7: calls that answer ringing, left out: 2\n",
         };
-        let mut reader = case.recording;
-        check_reader(&rt, rt.alloc(), &mut reader, &case, 0)?;
+        check_status(rt.alloc(), &Mfloop, words, &samples, wanted)?;
+    }
+    Ok(())
+}
+
+// Makes and breaks of 30 periods, and the row that is written up to the call after it: 1,000 ms, the burst, 2,000, an
+// answer of 5,000, and 1,000.
+const BELLS: &[(u32, u32, &[u8])] = &[
+    // 15 Hz, and 25 Hz
+    (33, 34, b"7,B,11010\n"),
+    (20, 20, b"7,B,10200\n"),
+    // both halves of 16 2/3, 25 and 33 1/3 Hz
+    (16, 14, b"7,B,9900\n"),
+    (12, 8, b"7,B,9600\n"),
+    (9, 6, b"7,B,9450\n"),
+];
+
+#[test]
+fn each_bell_is_answered(rt: HostRuntime) -> Result<(), Fail> {
+    for (make, rest, row) in BELLS {
+        let mut samples = Vec::new(rt.alloc());
+        hold(&mut samples, 0, 1_000)?;
+        ring(&mut samples, *make, *rest, 30)?;
+        hold(&mut samples, 0, 2_000)?;
+        hold(&mut samples, 1, 5_000)?;
+        hold(&mut samples, 0, 1_000)?;
+        call(&mut samples)?;
+        let mut rows = Vec::new(rt.alloc());
+        rows.extend_from_slice(b"line,state,ms\n")?;
+        rows.extend_from_slice(row)?;
+        rows.extend_from_slice(b"7,M,500\n7,B,60\n7,M,600\n7,B,640\n")?;
+        let wanted = Gives {
+            status: 0,
+            written: &rows,
+            line: b"line 7: calls that answer ringing, left out: 1\n",
+        };
+        check_status(rt.alloc(), &Mfloop, WORDS[0], &samples, wanted)?;
     }
     Ok(())
 }

@@ -1,8 +1,8 @@
 // Samples of sixteen wires, and sound that ends before its length, goes on after it, or is quiet.
-use crate::loops::attending::{Case, check_reader};
+use crate::loops::attending::Mfloop;
 use std::alloc::Global;
 use std::test::Fail;
-use test_kit::Halting;
+use test_kit::{Gives, check_pieces, check_status};
 
 // One channel of eight bits, 200 samples a second, up to the length of its samples.
 const HEAD: &[u8] = b"RIFF\x2a\x00\x00\x00WAVE\
@@ -124,21 +124,6 @@ const LEVELS: &[(&str, &[u8], &[u8], &[u8], &str)] = &[
 // Wire 10 closes with the third sample; half a sample is none.
 const SIXTEEN: &[u8] = b"\xff\xfb\x00\x00\x00\x04\x10\x05\x04\x04\xff";
 
-#[test]
-fn reads_sixteen_wires(rt: HostRuntime) -> Result<(), Fail> {
-    for step in [1, 3, 8_192] {
-        let mut reader = Halting::new(SIXTEEN, step);
-        let case = Case {
-            words: &["--format", "bits16", "--rate", "200", "--wire", "7=10"],
-            recording: SIXTEEN,
-            rows: ROWS,
-            told: b"",
-        };
-        check_reader(&rt, rt.alloc(), &mut reader, &case, 0)?;
-    }
-    Ok(())
-}
-
 // Samples that are open, and then so many pairs of bytes.
 fn pairs(alloc: Global, open: &[u8], pair: &[u8], count: u64) -> Result<Vec<u8>, Fail> {
     let mut bytes = Vec::new(alloc);
@@ -152,7 +137,7 @@ fn pairs(alloc: Global, open: &[u8], pair: &[u8], count: u64) -> Result<Vec<u8>,
 // At 1,000 samples a second wire 0 of sixteen is open for 10 ms and closed for 200; and the same of eight wires, where
 // another one goes to and fro.
 #[test]
-fn refuses_sixteen_wires_as_eight(rt: HostRuntime) -> Result<(), Fail> {
+fn reads_sixteen_wires_and_refuses_them_as_eight(rt: HostRuntime) -> Result<(), Fail> {
     let wide = pairs(rt.alloc(), &[0; 20], b"\x01\x00", 200)?;
     let busy = pairs(
         rt.alloc(),
@@ -160,48 +145,54 @@ fn refuses_sixteen_wires_as_eight(rt: HostRuntime) -> Result<(), Fail> {
         b"\x01\x03",
         100,
     )?;
-    for step in [1, 3, 8_192] {
-        for (form, recording, rows, told) in [
-            ("bits16", wide.as_slice(), CLOSED, b"".as_slice()),
-            ("bits", busy.as_slice(), CLOSED, b"".as_slice()),
-            (
-                "bits",
-                wide.as_slice(),
-                HEADER,
-                b"mfloop: sample 271: the wires go to and fro with each byte: give --format bits16\n".as_slice(),
-            ),
-        ] {
-            let mut reader = Halting::new(recording, step);
-            let case = Case {
-                words: &["--format", form, "--rate", "1000", "--wire", "7=0"],
-                recording,
-                rows,
-                told,
-            };
-            let status = if told.is_empty() { 0 } else { 1 };
-            check_reader(&rt, rt.alloc(), &mut reader, &case, status)?;
-        }
+    let refused = Gives {
+        status: 1,
+        written: HEADER,
+        line: b"mfloop: sample 271: the wires go to and fro with each byte: give --format bits16\n",
+    };
+    for (form, rate, wire, recording, wanted) in [
+        ("bits16", "200", "7=10", SIXTEEN, Gives::page(ROWS)),
+        (
+            "bits16",
+            "1000",
+            "7=0",
+            wide.as_slice(),
+            Gives::page(CLOSED),
+        ),
+        ("bits", "1000", "7=0", busy.as_slice(), Gives::page(CLOSED)),
+        ("bits", "1000", "7=0", wide.as_slice(), refused),
+    ] {
+        let words = ["--format", form, "--rate", rate, "--wire", wire];
+        check_pieces(
+            rt.alloc(),
+            &Mfloop,
+            &words,
+            recording,
+            &[1, 3, 8_192],
+            wanted,
+        )?;
     }
     Ok(())
 }
 
 #[test]
 fn judges_the_end_of_a_sound(rt: HostRuntime) -> Result<(), Fail> {
-    for step in [1, 8_192] {
-        for (bytes, rows, told) in ENDS {
-            let mut recording = Vec::new(rt.alloc());
-            recording.extend_from_slice(HEAD)?;
-            recording.extend_from_slice(bytes)?;
-            let mut reader = Halting::new(&recording, step);
-            let case = Case {
-                words: &["--wire", "7=1"],
-                recording: &recording,
-                rows,
-                told,
-            };
-            let status = if told.is_empty() { 0 } else { 1 };
-            check_reader(&rt, rt.alloc(), &mut reader, &case, status)?;
-        }
+    for (bytes, rows, told) in ENDS {
+        let mut recording = HEAD.to_vec(rt.alloc())?;
+        recording.extend_from_slice(bytes)?;
+        let wanted = Gives {
+            status: if told.is_empty() { 0 } else { 1 },
+            written: rows,
+            line: told,
+        };
+        check_pieces(
+            rt.alloc(),
+            &Mfloop,
+            &["--wire", "7=1"],
+            &recording,
+            &[1, 8_192],
+            wanted,
+        )?;
     }
     Ok(())
 }
@@ -209,8 +200,7 @@ fn judges_the_end_of_a_sound(rt: HostRuntime) -> Result<(), Fail> {
 #[test]
 fn advises_a_threshold_for_quiet_sound(rt: HostRuntime) -> Result<(), Fail> {
     for (wire, head, bytes, rows, percent) in LEVELS {
-        let mut recording = Vec::new(rt.alloc());
-        recording.extend_from_slice(head)?;
+        let mut recording = head.to_vec(rt.alloc())?;
         recording.extend_from_slice(bytes)?;
         let mut told = Vec::new(rt.alloc());
         if !percent.is_empty() {
@@ -221,15 +211,12 @@ fn advises_a_threshold_for_quiet_sound(rt: HostRuntime) -> Result<(), Fail> {
             told.extend_from_slice(percent.as_bytes())?;
             told.extend_from_slice(b"\n")?;
         }
-        let mut reader = recording.as_slice();
-        let case = Case {
-            words: &["--wire", *wire],
-            recording: &recording,
-            rows,
-            told: &told,
+        let wanted = Gives {
+            status: if percent.is_empty() { 0 } else { 1 },
+            written: rows,
+            line: &told,
         };
-        let status = if percent.is_empty() { 0 } else { 1 };
-        check_reader(&rt, rt.alloc(), &mut reader, &case, status)?;
+        check_status(rt.alloc(), &Mfloop, &["--wire", *wire], &recording, wanted)?;
     }
     Ok(())
 }

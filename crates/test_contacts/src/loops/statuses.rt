@@ -1,10 +1,12 @@
 // Words that are refused, and streams that fail.
-use crate::loops::attending::{Case, TABLES, attended, check_reader, check_told};
+use crate::loops::attending::{Mfloop, TABLES};
 use std::io::ErrorKind;
 use std::test::Fail;
-use test_kit::{Halting, Short, words_of};
-use xb_command::Call;
-use xb_loop::{PROGRAM, attend};
+use test_kit::{
+    Case, Gives, Halting, Short, check_cases, check_status, check_writes, run, words_of,
+};
+use xb_command::{Call, attend};
+use xb_loop::{Asked, PROGRAM};
 
 const WORDS: &[&str] = &["--wire", "7=1"];
 
@@ -36,7 +38,7 @@ const REFUSED: &[&[&str]] = &[
     &["--wire", "7=,inverted"],
     &["--wire", "7=1,ringing,ringing"],
     // a make of a period of ringing would seize
-    &["--wire", "7=1", "--ringing", "--seize", "65"],
+    &["--wire", "7=1", "--ringing", "--seize", "67"],
     &["--wire", "7=1,seize=0,ringing"],
     &["--wire", "7=1", "--format", "csv"],
     // edges are lost of gpiomon alone
@@ -54,40 +56,27 @@ const REFUSED: &[&[&str]] = &[
 fn fails_where_the_recording_fails(rt: HostRuntime) -> Result<(), Fail> {
     for place in 0..=RECORDING.len() {
         let mut reader = Halting::failing(RECORDING, 4, place, ErrorKind::Interrupted);
-        let mut out = Vec::new(rt.alloc());
-        let (got, told) = attended(rt.alloc(), WORDS, &mut reader, &mut out)?;
-        let line = b"mfloop: the recording could not be read\n";
-        check_told(&rt, (got, &told), 1, line, RECORDING);
-        assert!(rt; ROWS.starts_with(&out), "{place}");
+        let mut out = Short::new(rt.alloc(), usize::MAX, None);
+        let (got, told) = run(rt.alloc(), &Mfloop, WORDS, &mut reader, &mut out)?;
+        assert_eq!(rt; got, 1, "{place}");
+        let line = b"mfloop: the recording could not be read\n".as_slice();
+        assert!(rt; told.as_slice() == line, "{place}");
+        assert!(rt; ROWS.starts_with(&out.taken), "{place}");
     }
     Ok(())
 }
 
 #[test]
-fn writes_the_beginning_where_the_rows_fail(rt: HostRuntime) -> Result<(), Fail> {
+fn writes_the_beginning_where_a_write_fails(rt: HostRuntime) -> Result<(), Fail> {
+    check_status(rt.alloc(), &Mfloop, WORDS, RECORDING, Gives::page(ROWS))?;
+    let line = b"mfloop: the rows could not be written\n";
     for room in 0..ROWS.len() {
-        let mut reader = RECORDING;
-        let mut out = Short::new(rt.alloc(), room, Some(ErrorKind::Other));
-        let (got, told) = attended(rt.alloc(), WORDS, &mut reader, &mut out)?;
-        let line = b"mfloop: the rows could not be written\n";
-        check_told(&rt, (got, &told), 1, line, RECORDING);
-        assert!(rt; out.taken.as_slice() == &ROWS[..room], "{room}");
+        check_writes(rt.alloc(), &Mfloop, WORDS, RECORDING, &[room], line)?;
     }
-    Ok(())
-}
-
-#[test]
-fn writes_the_beginning_where_the_wires_fail(rt: HostRuntime) -> Result<(), Fail> {
-    let lines = b"1\t1\n".as_slice();
-    for room in 0..lines.len() {
-        let mut reader = RECORDING;
-        let mut out = Short::new(rt.alloc(), room, Some(ErrorKind::Other));
-        let (got, told) = attended(rt.alloc(), &["--list"], &mut reader, &mut out)?;
-        let line = b"mfloop: the wires could not be written\n";
-        check_told(&rt, (got, &told), 1, line, RECORDING);
-        assert!(rt; out.taken.as_slice() == &lines[..room], "{room}");
-    }
-    Ok(())
+    let (words, wires) = (["--list"], Gives::page(b"1\t1\n"));
+    check_status(rt.alloc(), &Mfloop, &words, RECORDING, wires)?;
+    let line = b"mfloop: the wires could not be written\n";
+    check_writes(rt.alloc(), &Mfloop, &words, RECORDING, &[0, 1, 2, 3], line)
 }
 
 #[test]
@@ -104,7 +93,14 @@ fn fails_where_the_bounces_are_not_told(rt: HostRuntime) -> Result<(), Fail> {
             is_typed: false,
             is_shown: false,
         };
-        let status = attend(rt.alloc(), &call, &TABLES, &mut reader, &mut out, &mut err);
+        let status = attend::<Asked<'_>, _, _, _, _>(
+            rt.alloc(),
+            &call,
+            &TABLES,
+            &mut reader,
+            &mut out,
+            &mut err,
+        );
         assert_eq!(rt; status, 1, "{room}");
         assert!(rt; out.as_slice() == ROWS, "{room}");
         assert!(rt; err.taken.as_slice() == &told[..room], "{room}");
@@ -112,45 +108,43 @@ fn fails_where_the_bounces_are_not_told(rt: HostRuntime) -> Result<(), Fail> {
     Ok(())
 }
 
-// The name of a route table, the status, the deck, and what is told.
-const DECKS: [(&str, u8, &[u8], &[u8]); 3] = [
+// Words that name a route table, and the deck.
+const DECKS: &[Case] = &[
     (
-        "good.toml",
+        &["--wire", "7=1", "--table", "good.toml"],
+        RECORDING,
         0,
         b"route = []\n---\nline,state,ms\n7,B,10\n7,M,20\n",
         b"",
     ),
     (
-        "none.toml",
+        &["--wire", "7=1", "--table", "none.toml"],
+        RECORDING,
         1,
         b"",
         b"mfloop: the route table could not be read: none.toml: entity not found\n",
     ),
-    ("wrong.toml", 1, b"", b"mfloop: route table: not TOML\n"),
+    (
+        &["--wire", "7=1", "--table", "wrong.toml"],
+        RECORDING,
+        1,
+        b"",
+        b"mfloop: route table: not TOML\n",
+    ),
 ];
 
 #[test]
 fn ends_with_each_status(rt: HostRuntime) -> Result<(), Fail> {
     for words in REFUSED {
-        let mut reader = RECORDING;
-        let mut out = Vec::new(rt.alloc());
-        let (got, told) = attended(rt.alloc(), words, &mut reader, &mut out)?;
+        let mut reader = Halting::new(RECORDING, 40);
+        let mut out = Short::new(rt.alloc(), usize::MAX, None);
+        let (got, told) = run(rt.alloc(), &Mfloop, words, &mut reader, &mut out)?;
         let is_line = told.starts_with(b"mfloop: ")
             && told.ends_with(b"; mfloop --help says more\n");
         assert_eq!(rt; got, 2, "{words:?}");
         assert!(rt; is_line, "{words:?}: {}", told.escape_ascii());
-        assert!(rt; out.is_empty());
-        assert!(rt; reader == RECORDING);
+        assert!(rt; out.taken.is_empty());
+        assert!(rt; reader.rest == RECORDING);
     }
-    for (name, status, rows, told) in DECKS {
-        let case = Case {
-            words: &["--wire", "7=1", "--table", name],
-            recording: RECORDING,
-            rows,
-            told,
-        };
-        let mut reader = RECORDING;
-        check_reader(&rt, rt.alloc(), &mut reader, &case, status)?;
-    }
-    Ok(())
+    check_cases(rt.alloc(), &Mfloop, DECKS)
 }

@@ -1,6 +1,7 @@
 // Tables, and lines of gpiomon, as several programs write them.
-use crate::loops::attending::{Case, check_reader};
+use crate::loops::attending::{Mfloop, check_begun};
 use std::test::Fail;
+use test_kit::{Fault, Gives, check_status};
 
 // 10 ms open, and then 20 ms closed.
 const ROWS: &[u8] = b"line,state,ms\n7,B,10\n7,M,20\n";
@@ -17,8 +18,11 @@ const UNQUOTED: &[u8] =
     b"1.000000000\tfalling\tgpiochip0 17 my line\n1.010000000\trising\tgpiochip0 17 my line
 1.030000000\trising\tgpiochip0 7 X\n";
 
-// Words, and a recording that gives the rows.
-const TAKEN: &[(&[&str], &[u8])] = &[
+// The same rows after the make that the first edge leaves.
+const EDGE_ROWS: &[u8] = b"line,state,ms\n7,M,5\n7,B,10\n7,M,20\n";
+
+// Words, and a recording that gives these.
+const EDGES: &[(&[&str], &[u8])] = &[
     (&["--wire", "7=my line"], NAMED),
     (&["--wire", "7=\"my line\""], NAMED),
     (&["--wire", "7=17"], NUMBERED),
@@ -26,6 +30,10 @@ const TAKEN: &[(&[&str], &[u8])] = &[
     (&["--wire", "7=17 \"GPIO17\""], NUMBERED),
     (&["--wire", "7=17"], UNQUOTED),
     (&["--wire", "7=my line"], UNQUOTED),
+];
+
+// Words, and a recording that gives the rows.
+const TAKEN: &[(&[&str], &[u8])] = &[
     // samples 1, 481 and 1,441 of sigrok at 48 kHz, each 20 us after the one before; 22 us at 44.1 kHz
     (
         &["--wire", "7=D1"],
@@ -70,23 +78,8 @@ microseconds,logic,logic\n22,1,0\n9724,0,1\n29128,0,1\n",
 const LOST: &[u8] =
     b"1.0 rising gpiochip0 4\n1.1 rising gpiochip0 4\n1.2 rising gpiochip0 17\n1.3 rising gpiochip0 17\n";
 
-#[test]
-fn gives_the_rows_of_each(rt: HostRuntime) -> Result<(), Fail> {
-    for (words, recording) in TAKEN {
-        let mut reader = *recording;
-        let case = Case {
-            words,
-            recording,
-            rows: ROWS,
-            told: b"",
-        };
-        check_reader(&rt, rt.alloc(), &mut reader, &case, 0)?;
-    }
-    Ok(())
-}
-
 // Words, a recording, and the line that says why it is refused.
-const REFUSED: &[(&[&str], &[u8], &[u8])] = &[
+const REFUSED: &[Fault] = &[
     (
         &["--wire", "7=A"],
         b"Time [s],A,B,A\n0,0,1,1\n",
@@ -133,16 +126,16 @@ const REFUSED: &[(&[&str], &[u8], &[u8])] = &[
 ];
 
 #[test]
-fn refuses_what_it_could_take_for_another(rt: HostRuntime) -> Result<(), Fail> {
-    for (words, recording, told) in REFUSED {
-        let mut reader = *recording;
-        let case = Case {
-            words,
-            recording,
-            rows: b"line,state,ms\n",
-            told,
-        };
-        check_reader(&rt, rt.alloc(), &mut reader, &case, 1)?;
+fn gives_the_rows_of_each(rt: HostRuntime) -> Result<(), Fail> {
+    for (cases, rows) in [(TAKEN, ROWS), (EDGES, EDGE_ROWS)] {
+        for (words, recording) in cases {
+            check_status(rt.alloc(), &Mfloop, words, recording, Gives::page(rows))?;
+        }
     }
     Ok(())
+}
+
+#[test]
+fn refuses_what_it_could_take_for_another(rt: HostRuntime) -> Result<(), Fail> {
+    check_begun(rt.alloc(), b"line,state,ms\n", REFUSED)
 }

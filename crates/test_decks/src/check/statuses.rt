@@ -2,9 +2,11 @@
 use std::alloc::Global;
 use std::test::Fail;
 use test_kit::{
-    Folder, Gives, Halting, Program, Short, called, check_reads, check_status, check_writes,
+    Case, Fault, Folder, Page, Program, Refusal, Streams, called, check_cases, check_faults,
+    check_pages, check_reads, check_refusals, check_texts, check_writes,
 };
-use xb_check::{CheckFault, PROGRAM, attend};
+use xb_check::{CheckFault, PROGRAM, Request};
+use xb_command::attend;
 
 // The program `mfcheck`.
 #[derive(Clone, Copy)]
@@ -15,15 +17,10 @@ impl Program for Mfcheck {
         "mfcheck"
     }
 
-    fn attend(
-        &self,
-        alloc: Global,
-        words: &[String],
-        reader: &mut Halting<'_>,
-        out: &mut Short,
-        err: &mut Vec<u8>,
-    ) -> u8 {
-        attend(alloc, &called(&PROGRAM, words), &FOLDER, reader, out, err)
+    fn attend(&self, alloc: Global, words: &[String], streams: Streams<'_, '_>) -> u8 {
+        let Streams { reader, out, err } = streams;
+        let call = called(&PROGRAM, words);
+        attend::<Request<'_>, _, _, _, _>(alloc, &call, &FOLDER, reader, out, err)
     }
 }
 
@@ -273,18 +270,35 @@ deck:8:1: this line is nearly ---; three hyphens have to stand alone, and LF or 
 // A table alone with a heading that no rule names.
 const MISNAMED: &[u8] = b"[[routes]]\ncode = \"0\"\n";
 
-// The words after the program's name, the deck, the status, and what stands on standard output and error.
-type Case = (
-    &'static [&'static str],
-    &'static [u8],
-    u8,
-    &'static [u8],
-    &'static [u8],
-);
+// What is told of decks that `mfbank` takes.
+const PAGES: &[Page] = &[
+    (&["--name", "a.deck"], PASSED_OVER, TOLD),
+    (&[], MARKED, MARKED_TOLD),
+    (&[], CLOSED, IGNORED),
+    (&[], BOUNCED, BOUNCES),
+    (&[], QUIET, QUIET_LINES),
+    (&[], SECONDS, NO_DIGIT_FITS),
+    (&[], TOO_SHORT, NO_DIGIT_FITS),
+    (&[], LONG_ENOUGH, b""),
+    (&[], ONE_LONG_PULSE, TOO_LONG),
+    (&[], NANOSECONDS, MUCH_TOO_LONG),
+    (&[], TALKED, b""),
+    (&[], LIFTED, b""),
+    (&[], RINGING, RINGS),
+    (&[], NINE_RINGS, b""),
+    (&[], MICROSECONDS, TOO_LONG),
+    (&[], EXCHANGED, EXCHANGED_TOLD),
+    (&[], HARDLY_EXCHANGED, b""),
+    (
+        &[],
+        MISNAMED,
+        b"deck:1:1: no rule names this heading; there are [limits] and [[route]]: [[routes]]\n",
+    ),
+    (&["--all", "--name", "t"], HEADINGS, ALL_HEADINGS),
+];
 
+// What is told of decks and tables that are refused.
 const CASES: &[Case] = &[
-    (&["--name", "a.deck"], PASSED_OVER, 0, TOLD, b""),
-    (&[], MARKED, 0, MARKED_TOLD, b""),
     (
         &[],
         b"plan\n = 10\n---\n",
@@ -299,8 +313,6 @@ const CASES: &[Case] = &[
         FAULTS,
         b"mfcheck: loop rows: record 2 has a wrong line\n",
     ),
-    (&[], CLOSED, 0, IGNORED, b""),
-    (&[], BOUNCED, 0, BOUNCES, b""),
     (
         &[],
         b"---\n\nline,state\n7,M,1\n",
@@ -308,19 +320,6 @@ const CASES: &[Case] = &[
         b"deck:3:1: the first record is not line,state,ms: line,state\n",
         b"mfcheck: loop rows: the header is not line,state,ms\n",
     ),
-    (&[], QUIET, 0, QUIET_LINES, b""),
-    (&[], SECONDS, 0, NO_DIGIT_FITS, b""),
-    (&[], TOO_SHORT, 0, NO_DIGIT_FITS, b""),
-    (&[], LONG_ENOUGH, 0, b"", b""),
-    (&[], ONE_LONG_PULSE, 0, TOO_LONG, b""),
-    (&[], NANOSECONDS, 0, MUCH_TOO_LONG, b""),
-    (&[], TALKED, 0, b"", b""),
-    (&[], LIFTED, 0, b"", b""),
-    (&[], RINGING, 0, RINGS, b""),
-    (&[], NINE_RINGS, 0, b"", b""),
-    (&[], MICROSECONDS, 0, TOO_LONG, b""),
-    (&[], EXCHANGED, 0, EXCHANGED_TOLD, b""),
-    (&[], HARDLY_EXCHANGED, 0, b"", b""),
     (
         &[],
         b"---\nline,state,ms\n7,M,500\n7,B,0.06\n",
@@ -334,13 +333,6 @@ const CASES: &[Case] = &[
         1,
         WRONG_CODE,
         b"mfcheck: route table: route 2 has a wrong code\n",
-    ),
-    (
-        &[],
-        MISNAMED,
-        0,
-        b"deck:1:1: no rule names this heading; there are [limits] and [[route]]: [[routes]]\n",
-        b"",
     ),
     (
         &[],
@@ -438,127 +430,100 @@ deck:4:1: this route lacks code or trunk, or one of its keys has another kind of
         TEN_OF_EACH,
         b"mfcheck: loop rows: record 2 has a wrong line\n",
     ),
-    (&["--all", "--name", "t"], HEADINGS, 0, ALL_HEADINGS, b""),
 ];
 
-// The same of words that name a file, or are wrong.
-const CALLS: &[Case] = &[
-    (&["a.deck"], FAULTY, 0, TOLD, b""),
+// The same of words that name a file.
+const CALLS: &[Page] = &[
+    (&["a.deck"], FAULTY, TOLD),
     (
         &["-"],
         MISNAMED,
-        0,
         b"deck:1:1: no rule names this heading; there are [limits] and [[route]]: [[routes]]\n",
-        b"",
     ),
     (
         &["two\nlines"],
         FAULTY,
-        0,
         b"two?lines:1:1: no rule names this heading; there are [limits] and [[route]]: [[routes]]\n",
-        b"",
     ),
     (
         &["two\nlines", "--name", "\x1b[7m\u{85}\u{e9}"],
         FAULTY,
-        0,
         b"?[7m?\xc3\xa9:1:1: no rule names this heading; there are [limits] and [[route]]: [[routes]]\n",
-        b"",
     ),
+    (&["--version"], PASSED_OVER, b"mfcheck 0.5\n"),
+];
+
+// Files that are refused.
+const FAULTS_OF_FILES: &[Fault] = &[
     (
         &["none.deck"],
         FAULTY,
-        1,
-        b"",
         b"mfcheck: none.deck: entity not found\n",
     ),
     (
         &["call.wav"],
         FAULTY,
-        1,
-        b"",
         b"mfcheck: call.wav: it is a sound, which mfrx and mfloop take\n",
     ),
     (
         &["wide.deck"],
         FAULTY,
-        1,
-        b"",
         b"mfcheck: wide.deck: it is UTF-16, and UTF-8 is taken: iconv -f UTF-16 -t UTF-8 makes that of it\n",
     ),
+];
+
+// Words that are refused.
+const REFUSED: &[Refusal] = &[
     (
         &["--all=yes"],
-        PASSED_OVER,
-        2,
-        b"",
         b"mfcheck: unexpected value 'yes' for '--all'; no more were expected; mfcheck --help says more\n",
     ),
     (
         &["a.deck", "two\nlines"],
-        PASSED_OVER,
-        2,
-        b"",
         b"mfcheck: there is one word too many, 'two?lines'; mfcheck --help says more\n",
     ),
     (
         &["--name"],
-        PASSED_OVER,
-        2,
-        b"",
         b"mfcheck: a value is required for '--name <NAME>' but none was supplied; mfcheck --help says more\n",
     ),
     (
         &["--name="],
-        PASSED_OVER,
-        2,
-        b"",
         b"mfcheck: invalid value '' for '--name': a name is wanted; mfcheck --help says more\n",
     ),
-    (&["--version"], PASSED_OVER, 0, b"mfcheck 0.5\n", b""),
 ];
-
-// Checks what the program gives in each case.
-fn check_cases(alloc: Global, cases: &[Case]) -> Result<(), Fail> {
-    for (words, deck, status, written, line) in cases {
-        let wanted = Gives {
-            status: *status,
-            written,
-            line,
-        };
-        check_status(alloc, &Mfcheck, words, deck, wanted)?;
-    }
-    Ok(())
-}
 
 #[test]
 fn tells_what_is_wrong(rt: HostRuntime) -> Result<(), Fail> {
-    check_cases(rt.alloc(), CASES)
-}
-
-#[test]
-fn opens_the_file_and_refuses_wrong_words(rt: HostRuntime) -> Result<(), Fail> {
-    check_cases(rt.alloc(), CALLS)
-}
-
-#[test]
-fn names_what_splits_a_large_deck(rt: HostRuntime) -> Result<(), Fail> {
-    let too_many = format!(in rt.alloc(); "{}", CheckFault::TooMany)?;
-    assert_eq!(rt;
-        too_many.as_str(),
-        "loop rows: more than 1000000 records; mfsplit makes parts of the deck"
-    );
-    let too_long = format!(in rt.alloc(); "{}", CheckFault::TooLong)?;
-    assert_eq!(rt;
-        too_long.as_str(),
-        "the deck is longer than 16777216 bytes; mfsplit makes parts of it"
-    );
-    Ok(())
+    check_pages(rt.alloc(), &Mfcheck, PAGES)?;
+    check_cases(rt.alloc(), &Mfcheck, CASES)?;
+    check_pages(rt.alloc(), &Mfcheck, CALLS)?;
+    check_faults(rt.alloc(), &Mfcheck, FAULTS_OF_FILES)?;
+    check_refusals(rt.alloc(), &Mfcheck, PASSED_OVER, REFUSED)?;
+    // what says how a deck is split that is too large
+    let too_large = &[
+        (
+            CheckFault::TooMany,
+            "loop rows: more than 1000000 records; mfoffice split makes parts of the deck",
+        ),
+        (
+            CheckFault::TooLong,
+            "the deck is longer than 16777216 bytes; mfoffice split makes parts of it",
+        ),
+    ];
+    check_texts(rt.alloc(), too_large)
 }
 
 #[test]
 fn fails_where_a_stream_fails(rt: HostRuntime) -> Result<(), Fail> {
     let line = b"mfcheck: the deck could not be read\n";
-    check_reads(rt.alloc(), &Mfcheck, FAULTY, &[0, 1, FAULTY.len()], line)?;
+    check_reads(
+        rt.alloc(),
+        &Mfcheck,
+        &[],
+        FAULTY,
+        &[0, 1, FAULTY.len()],
+        line,
+    )?;
     let line = b"mfcheck: what was found could not be written\n";
     check_writes(rt.alloc(), &Mfcheck, &[], PASSED_OVER, &[0, 1, 99], line)
 }

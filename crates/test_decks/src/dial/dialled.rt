@@ -49,22 +49,11 @@ fn check_rows(
 #[test]
 fn dials_in_both_orders(rt: HostRuntime) -> Result<(), Fail> {
     let calls = calls_of_text(rt.alloc(), CALLS, None)?;
-    check_rows(
-        &rt,
-        rt.alloc(),
-        &calls,
-        Speed::ten(),
-        RowOrder::ByLine,
-        BY_LINE,
-    )?;
-    check_rows(
-        &rt,
-        rt.alloc(),
-        &calls,
-        Speed::ten(),
-        RowOrder::InTurn,
-        IN_TURN,
-    )
+    for (order, want) in [(RowOrder::ByLine, BY_LINE), (RowOrder::InTurn, IN_TURN)] {
+        check_rows(&rt, rt.alloc(), &calls, Speed::ten(), order, want)?;
+        check_rows(&rt, rt.alloc(), &[], Speed::ten(), order, "line,state,ms\n")?;
+    }
+    Ok(())
 }
 
 #[test]
@@ -73,28 +62,8 @@ fn dials_the_operator(rt: HostRuntime) -> Result<(), Fail> {
     digits.push(Digit::default())?;
     let mut calls = Vec::new(rt.alloc());
     calls.push(Call::new(LineNo::default(), digits))?;
-    check_rows(
-        &rt,
-        rt.alloc(),
-        &calls,
-        Speed::twenty(),
-        RowOrder::ByLine,
-        OPERATOR,
-    )?;
-    check_rows(
-        &rt,
-        rt.alloc(),
-        &calls,
-        Speed::twenty(),
-        RowOrder::InTurn,
-        OPERATOR,
-    )
-}
-
-#[test]
-fn no_calls_give_the_header(rt: HostRuntime) -> Result<(), Fail> {
     for order in [RowOrder::ByLine, RowOrder::InTurn] {
-        check_rows(&rt, rt.alloc(), &[], Speed::ten(), order, "line,state,ms\n")?;
+        check_rows(&rt, rt.alloc(), &calls, Speed::twenty(), order, OPERATOR)?;
     }
     Ok(())
 }

@@ -63,6 +63,16 @@ const BEYOND: &[(Time, SpeedFault)] = &[
     (Time::HangUp(86_400_001), SpeedFault::HangUp),
 ];
 
+// Limits of which each is 1 ms, but for the order that they have to be in.
+const LEAST: Limits = Limits {
+    pulse_min: 1,
+    pulse_max: 1,
+    make_min: 1,
+    pause: 2,
+    release: 2,
+    timeout: 3,
+};
+
 #[test]
 fn standard_speeds_fit(rt: HostRuntime) {
     assert!(rt; Speed::ten() == TEN);
@@ -89,16 +99,6 @@ fn ends_fit_and_nothing_beyond(rt: HostRuntime) {
         }
     }
 }
-
-// Limits of which each is 1 ms, but for the order that they have to be in.
-const LEAST: Limits = Limits {
-    pulse_min: 1,
-    pulse_max: 1,
-    make_min: 1,
-    pause: 2,
-    release: 2,
-    timeout: 3,
-};
 
 #[test]
 fn the_first_misfit_is_told(rt: HostRuntime) {

@@ -1,9 +1,9 @@
 // Pages of a small deck: the tables as a person wrote them, and below each the picture that `--svg` draws.
 use crate::hear::reports::DECK;
+use crate::hear::statuses::Mfhear;
 use std::alloc::Global;
 use std::test::Fail;
-use test_kit::{Folder, called, words_of};
-use xb_hear::{PROGRAM, attend};
+use test_kit::written;
 
 const HEAD: &str = "<!DOCTYPE html>
 <html lang=\"en\">
@@ -108,28 +108,6 @@ const PAGES: &[(&[&str], &str, &[(&str, &str)])] = &[
     (&["--line", "8"], "", &[EIGHT]),
 ];
 
-// What the program writes of the deck for words and one more.
-fn written(alloc: Global, words: &[&str], last: &str) -> Result<Vec<u8>, Fail> {
-    let mut all = words_of(alloc, "mfhear", words)?;
-    all.push(last.to_string(alloc)?)?;
-    let mut deck = DECK;
-    let mut out = Vec::new(alloc);
-    let mut err = Vec::new(alloc);
-    if attend(
-        alloc,
-        &called(&PROGRAM, &all),
-        &Folder(&[]),
-        &mut deck,
-        &mut out,
-        &mut err,
-    ) == 0
-    {
-        Ok(out)
-    } else {
-        Err(Fail::from("the words are refused"))
-    }
-}
-
 // The section of a line.
 fn push_section(alloc: Global, page: &mut Vec<u8>, line: &str, rows: &str) -> Result<(), Fail> {
     page.extend_from_slice(b"<section id=\"line")?;
@@ -140,7 +118,7 @@ fn push_section(alloc: Global, page: &mut Vec<u8>, line: &str, rows: &str) -> Re
     page.extend_from_slice(COLUMNS.as_bytes())?;
     page.extend_from_slice(rows.as_bytes())?;
     page.extend_from_slice(b"</table>\n")?;
-    page.extend_from_slice(&written(alloc, &["--line", line], "--svg")?)?;
+    page.extend_from_slice(&written(alloc, &Mfhear, &["--line", line, "--svg"], DECK)?)?;
     page.extend_from_slice(b"</section>\n")?;
     Ok(())
 }
@@ -155,7 +133,9 @@ fn pages_are_as_written(rt: HostRuntime) -> Result<(), Fail> {
             push_section(rt.alloc(), &mut want, line, rows)?;
         }
         want.extend_from_slice(b"</body>\n</html>\n")?;
-        let got = written(rt.alloc(), words, "--html")?;
+        let mut all = words.to_vec(rt.alloc())?;
+        all.push("--html")?;
+        let got = written(rt.alloc(), &Mfhear, &all, DECK)?;
         assert!(rt; got.as_slice() == want.as_slice(), "{words:?}");
     }
     Ok(())

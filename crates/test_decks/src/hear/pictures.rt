@@ -1,8 +1,8 @@
 // What the pictures of a small deck say, as a person reckoned it.
 use crate::hear::reports::DECK;
+use crate::hear::statuses::Mfhear;
 use std::test::Fail;
-use test_kit::{Folder, called, words_of};
-use xb_hear::{PROGRAM, attend};
+use test_kit::attended;
 
 // The words after those that ask for a picture, and texts that it has, in their order.
 const PICTURES: &[(&[&str], &[&str])] = &[
@@ -68,25 +68,15 @@ fn place_of(text: &[u8], part: &str) -> Option<usize> {
 #[test]
 fn pictures_say_what_was_heard(rt: HostRuntime) -> Result<(), Fail> {
     for (words, parts) in PICTURES {
-        let mut all = words_of(rt.alloc(), "mfhear", words)?;
-        all.push("--svg".to_string(rt.alloc())?)?;
-        let mut deck = DECK;
-        let mut out = Vec::new(rt.alloc());
-        let mut err = Vec::new(rt.alloc());
-        let got = attend(
-            rt.alloc(),
-            &called(&PROGRAM, &all),
-            &Folder(&[]),
-            &mut deck,
-            &mut out,
-            &mut err,
-        );
-        assert_eq!(rt; got, 0, "{words:?}");
-        assert!(rt; err.is_empty(), "{words:?}");
-        let mut rest = out.as_slice();
+        let mut all = words.to_vec(rt.alloc())?;
+        all.push("--svg")?;
+        let gave = attended(rt.alloc(), &Mfhear, &all, DECK)?;
+        assert_eq!(rt; gave.status, 0, "{words:?}");
+        assert!(rt; gave.line.is_empty(), "{words:?}");
+        let mut rest = gave.written.as_slice();
         for part in *parts {
             let Some(place) = place_of(rest, part) else {
-                return Err(Fail::from("a text is missing"));
+                return Err(Fail::new(format_args!("{words:?}: {part} is missing")));
             };
             rest = rest.get(place..).unwrap_or(&[]);
         }

@@ -1,7 +1,7 @@
 // Reports of a small deck, as a person reckoned them.
+use crate::hear::statuses::Mfhear;
 use std::test::Fail;
-use test_kit::{Folder, called, words_of};
-use xb_hear::{PROGRAM, attend};
+use test_kit::{Gives, check_status};
 
 // Line 7 dials 0 with a make at its limit, line 8 a digit with a break over its limit, line 9 nothing, and line 10
 // two such digits and a good one.
@@ -89,7 +89,41 @@ line 0003, attempt 1 from 0.000 s, record 1: REFUSED ABANDONED 1
   the record ends
 ";
 
-// A deck, the words after the program's name, and the parts of the report or its objects.
+/// A recording of a loop that dials 2: it is closed after half a second.
+pub const CALL: &[u8] = b"0,0\n0.5,1\n1.1,0\n1.16,1\n1.2,0\n1.26,1\n2.0,1\n";
+
+const OF_CALL: &str =
+    "limits in ms: break 20 to 119, make from 15, pause from 180, release from 300, time-out from 20000
+
+line 0007, attempt 1 from 0.500 s, record 2: REFUSED ABANDONED 1
+  digit  pulses    p/s  % break  break ms   make ms  pause ms
+      2       2   10.0     60.0        60        40       740
+  the record ends
+";
+
+// The same, by that table.
+const BY_A_TABLE: &str =
+    "limits in ms: break 20 to 50, make from 15, pause from 180, release from 300, time-out from 20000
+
+line 0007, attempt 1 from 0.500 s, record 2: REFUSED MUTILATED 0
+  digit  pulses    p/s  % break  break ms   make ms  pause ms
+      x       2   10.0     60.0        60        40       740  break 60 ms > 50 at 1.100 s, record 3
+  the record ends
+";
+
+/// A table in which a break of 60 ms is too long.
+pub const SHORT: &[u8] = b"[limits]\npulse_max = 50";
+
+const OBJECT_OF_CALL: &str = "{\"attempt\":1,\
+\"begins\":{\"from_ms\":500,\"ms\":600,\"record\":2,\"text_line\":4},\
+\"digits\":[{\"breaks_ms\":{\"least\":60,\"most\":60},\"digit\":2,\"fault\":null,\
+\"makes_ms\":{\"least\":40,\"most\":40},\"open_permille\":600,\"pause_ms\":740,\
+\"periods\":{\"count\":1,\"ms\":100,\"open_ms\":60},\"pulses\":2,\"speed_tenths\":100,\"taken\":true}],\
+\"end\":{\"released\":null,\"timeout\":null,\"unfinished\":null,\"unfinished_pulses\":0},\
+\"heard\":1,\"line\":7,\"number\":null,\"outcome\":\"REFUSED\",\"reason\":\"ABANDONED\"}
+";
+
+// A deck or a recording, the words after the program's name, and the parts of the report or its objects.
 const REPORTS: &[(&[u8], &[&str], &[&str])] = &[
     (DECK, &[], &[LIMITS, SEVEN, EIGHT, TEN]),
     (DECK, &["--line", "7"], &[LIMITS, SEVEN]),
@@ -98,6 +132,14 @@ const REPORTS: &[(&[u8], &[&str], &[&str])] = &[
     (WIDE, &[], &[OF_WIDE]),
     (DECK, &["--json", "--line", "7"], &[SEVEN_OBJECT]),
     (DECK, &["--line=8", "--json"], &[EIGHT_OBJECTS]),
+    (CALL, &["--wire", "7=1"], &[OF_CALL]),
+    (b"", &["--wire=7=1", "call.csv", "--line=7"], &[OF_CALL]),
+    (
+        CALL,
+        &["--wire", "7=1", "--table", "short.toml"],
+        &[BY_A_TABLE],
+    ),
+    (CALL, &["--json", "--wire", "7=1", "-"], &[OBJECT_OF_CALL]),
 ];
 
 #[test]
@@ -107,21 +149,8 @@ fn reports_as_reckoned(rt: HostRuntime) -> Result<(), Fail> {
         for part in *parts {
             want.push_str(part)?;
         }
-        let all = words_of(rt.alloc(), "mfhear", words)?;
-        let mut deck = *deck;
-        let mut out = Vec::new(rt.alloc());
-        let mut err = Vec::new(rt.alloc());
-        let got = attend(
-            rt.alloc(),
-            &called(&PROGRAM, &all),
-            &Folder(&[]),
-            &mut deck,
-            &mut out,
-            &mut err,
-        );
-        assert_eq!(rt; got, 0, "{words:?}");
-        assert!(rt; err.is_empty(), "{words:?}");
-        assert!(rt; out.as_slice() == want.as_bytes(), "{words:?}");
+        let wanted = Gives::page(want.as_bytes());
+        check_status(rt.alloc(), &Mfhear, words, deck, wanted)?;
     }
     Ok(())
 }

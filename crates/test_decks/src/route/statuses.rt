@@ -2,8 +2,11 @@
 use crate::route::tables::FOLDER;
 use std::alloc::Global;
 use std::test::Fail;
-use test_kit::{Gives, Halting, Program, Short, called, check_status};
-use xb_route::{PROGRAM, attend};
+use test_kit::{
+    Fault, Page, Program, Refusal, Streams, called, check_faults, check_pages, check_refusals,
+};
+use xb_command::attend;
+use xb_route::{PROGRAM, Request};
 
 /// The program `mfroute`.
 #[derive(Clone, Copy)]
@@ -14,27 +17,12 @@ impl Program for Mfroute {
         "mfroute"
     }
 
-    fn attend(
-        &self,
-        alloc: Global,
-        words: &[String],
-        reader: &mut Halting<'_>,
-        out: &mut Short,
-        err: &mut Vec<u8>,
-    ) -> u8 {
-        attend(alloc, &called(&PROGRAM, words), &FOLDER, reader, out, err)
+    fn attend(&self, alloc: Global, words: &[String], streams: Streams<'_, '_>) -> u8 {
+        let Streams { reader, out, err } = streams;
+        let call = called(&PROGRAM, words);
+        attend::<Request<'_>, _, _, _, _>(alloc, &call, &FOLDER, reader, out, err)
     }
 }
-
-// The words after the program's name, the numbers on standard input, the status, and what stands on standard
-// output and on standard error.
-type Case = (
-    &'static [&'static str],
-    &'static [u8],
-    u8,
-    &'static [u8],
-    &'static [u8],
-);
 
 // Of words that name no table.
 const NO_TABLE: &[u8] =
@@ -47,181 +35,132 @@ NUMBER is wanted; mfroute --help says more\n";
 
 const NO_NUMBERS: &[u8] = b"mfroute: there are no numbers\n";
 
-const CASES: &[Case] = &[
+// What is written of numbers.
+const PAGES: &[Page] = &[
     (
         &["seven", "234-5678", "4 1 1", "0"],
         b"411",
-        0,
         b"2345678 KEYED 0017 KP:1100+1700 5:900+1300 6:1100+1300 5:900+1300 6:1100+1300 7:700+1500 \
 8:900+1500 ST:1500+1700\n\
 411 KEYED 0003 KP:1100+1700 4:700+1300 1:700+900 1:700+900 ST:1500+1700\n\
 0 KEYED 0001 KP:1100+1700 0:1300+1500 ST:1500+1700\n",
-        b"",
     ),
     (
         &["seven"],
         b"# numbers\r\nPE6-5000\r\n\npe6-500\n0 99",
-        0,
         b"7365000 REFUSED UNKNOWN 7\n736500 INCOMPLETE 6\n\
 0 KEYED 0001 KP:1100+1700 0:1300+1500 ST:1500+1700 IGNORED 99\n",
-        b"",
     ),
     // a byte order mark, tabs, and lines of blanks
     (
         &["seven"],
         b"\xef\xbb\xbf \t0\t\r\n \t\r\n\t# none\n4\t11",
-        0,
         b"0 KEYED 0001 KP:1100+1700 0:1300+1500 ST:1500+1700\n\
 411 KEYED 0003 KP:1100+1700 4:700+1300 1:700+900 1:700+900 ST:1500+1700\n",
-        b"",
     ),
-    // no numbers
-    (&["seven"], b"", 1, b"", NO_NUMBERS),
-    (&["seven", "--json"], b"# none\n \t\r\n", 1, b"", NO_NUMBERS),
     // ten digits, by the longer code
     (
         &["ten", "212 555 1234", "212-4444"],
         b"",
-        0,
         b"2125551234 KEYED 9999 KP:1100+1700 0:1300+1500 ST:1500+1700\n2124444 INCOMPLETE 7\n",
-        b"",
     ),
     (
         &["no routes", "2125551234"],
         b"",
-        0,
         b"2125551 REFUSED UNKNOWN 7 IGNORED 234\n",
-        b"",
     ),
     // dial pulses
     (
         &["pulsed", "234-5678", "2345678 9", "0"],
         b"",
-        0,
         b"2345678 DIALLED 0030 5678\n2345678 DIALLED 0030 5678 IGNORED 9\n\
 0 KEYED 0001 KP:1100+1700 0:1300+1500 ST:1500+1700\n",
-        b"",
     ),
     (
         &["--json", "pulsed", "2345678"],
         b"",
-        0,
         b"{\"dialled\":\"2345678\",\"ignored\":\"\",\"outcome\":\"DIALLED\",\"pulses\":\"5678\",\"trunk\":30}\n",
-        b"",
     ),
     // a complete number is sent on with a digit at least, or the table is refused
     (
         &["one digit", "2345678", "234"],
         b"",
-        0,
         b"2345678 DIALLED 0030 8\n234 INCOMPLETE 3\n",
-        b"",
     ),
+    // JSON
+    (
+        &["seven", "--json", "0", "611", "2349"],
+        b"",
+        b"{\"dialled\":\"0\",\"ignored\":\"\",\"keys\":[\"KP\",\"0\",\"ST\"],\"outcome\":\"KEYED\",\
+\"sent\":\"0\",\"trunk\":1}\n\
+{\"dialled\":\"611\",\"heard\":3,\"ignored\":\"\",\"outcome\":\"REFUSED\",\"reason\":\"UNKNOWN\"}\n\
+{\"dialled\":\"2349\",\"heard\":4,\"outcome\":\"INCOMPLETE\"}\n",
+    ),
+    // standard input by its name: the table, or the numbers
+    (
+        &["-", "0"],
+        b"234",
+        b"0 KEYED 0001 KP:1100+1700 0:1300+1500 ST:1500+1700\n",
+    ),
+    (&["seven", "-"], b"234\n", b"234 INCOMPLETE 3\n"),
+];
+
+// Tables and numbers that are refused.
+const FAULTS: &[Fault] = &[
+    // no numbers
+    (&["seven"], b"", NO_NUMBERS),
+    (&["seven", "--json"], b"# none\n \t\r\n", NO_NUMBERS),
     (
         &["no digits", "2345678"],
-        b"",
-        1,
         b"",
         b"mfroute: route table: route 1 keys no digit\n",
     ),
     (
         &["wrong send", "0"],
         b"",
-        1,
-        b"",
         b"mfroute: route table: route 1 has a wrong send\n",
     ),
-    // JSON
-    (
-        &["seven", "--json", "0", "611", "2349"],
-        b"",
-        0,
-        b"{\"dialled\":\"0\",\"ignored\":\"\",\"keys\":[\"KP\",\"0\",\"ST\"],\"outcome\":\"KEYED\",\
-\"sent\":\"0\",\"trunk\":1}\n\
-{\"dialled\":\"611\",\"heard\":3,\"ignored\":\"\",\"outcome\":\"REFUSED\",\"reason\":\"UNKNOWN\"}\n\
-{\"dialled\":\"2349\",\"heard\":4,\"outcome\":\"INCOMPLETE\"}\n",
-        b"",
-    ),
     // faults, that of the table first
-    (
-        &["no toml", "x"],
-        b"",
-        1,
-        b"",
-        b"mfroute: route table: not TOML\n",
-    ),
+    (&["no toml", "x"], b"", b"mfroute: route table: not TOML\n"),
     (
         &["no trunk", "0"],
-        b"",
-        1,
         b"",
         b"mfroute: route table: route 1 has a wrong shape\n",
     ),
     (
         &["wrong plan"],
         b"0",
-        1,
-        b"",
         b"mfroute: route table: plan is neither 7 nor 10\n",
     ),
     (
         &["seven", "0", "QUiet", "*"],
         b"",
-        1,
-        b"",
         b"mfroute: number 2 has a wrong character at byte 1: \"Q\"\n",
     ),
-    (
-        &["seven", ""],
-        b"",
-        1,
-        b"",
-        b"mfroute: number 1 has no digits\n",
-    ),
+    (&["seven", ""], b"", b"mfroute: number 1 has no digits\n"),
     (
         &["seven"],
         b"#\n0\n4*1",
-        1,
-        b"",
         b"mfroute: text line 3 has a wrong character at byte 2: \"*\"\n",
     ),
     (
         &["seven"],
         b"234\xe2\x80\x935678",
-        1,
-        b"",
         b"mfroute: text line 1 has a wrong character at byte 4: \\xe2\n",
     ),
     // the order of the faults: the table comes before the numbers
     (
         &["wrong plan"],
         b"",
-        1,
-        b"",
         b"mfroute: route table: plan is neither 7 nor 10\n",
     ),
     (
         &["seven"],
         b"0\n -\n",
-        1,
-        b"",
         b"mfroute: text line 2 has no digits\n",
     ),
-    // standard input by its name: the table, or the numbers
-    (
-        &["-", "0"],
-        b"234",
-        0,
-        b"0 KEYED 0001 KP:1100+1700 0:1300+1500 ST:1500+1700\n",
-        b"",
-    ),
-    (&["seven", "-"], b"234\n", 0, b"234 INCOMPLETE 3\n", b""),
-    (&["-"], b"", 2, b"", BOTH),
-    (&["--json", "-", "-"], b"", 2, b"", BOTH),
     (
         &["seven", "0", "-"],
-        b"",
-        1,
         b"",
         b"mfroute: number 2 has no digits\n",
     ),
@@ -229,46 +168,38 @@ const CASES: &[Case] = &[
     (
         &["none", "0"],
         b"",
-        1,
-        b"",
         b"mfroute: the route table could not be read: none: entity not found\n",
     ),
     (
         &["a\nsound", "0"],
-        b"",
-        1,
         b"",
         b"mfroute: the route table could not be read: a?sound: it is a sound, which mfrx and mfloop take\n",
     ),
     (
         &["wide", "0"],
         b"",
-        1,
-        b"",
         b"mfroute: the route table could not be read: wide: it is UTF-16, and UTF-8 is taken: iconv -f UTF-16 -t \
 UTF-8 makes that of it\n",
     ),
-    // refused words
-    (&[], b"0", 2, b"", NO_TABLE),
-    (&["--json"], b"0", 2, b"", NO_TABLE),
+];
+
+// Words that are refused.
+const REFUSED: &[Refusal] = &[
+    (&["-"], BOTH),
+    (&["--json", "-", "-"], BOTH),
     (
         &["seven", "--line", "0"],
-        b"",
-        2,
-        b"",
         b"mfroute: there is no option '--line'; mfroute --help says more\n",
     ),
 ];
 
+// The same of words that name no table, where standard input has a number.
+const NAMELESS: &[Refusal] = &[(&[], NO_TABLE), (&["--json"], NO_TABLE)];
+
 #[test]
 fn gives_each_status(rt: HostRuntime) -> Result<(), Fail> {
-    for (words, numbers, status, lines, line) in CASES {
-        let wanted = Gives {
-            status: *status,
-            written: lines,
-            line,
-        };
-        check_status(rt.alloc(), &Mfroute, words, numbers, wanted)?;
-    }
-    Ok(())
+    check_pages(rt.alloc(), &Mfroute, PAGES)?;
+    check_refusals(rt.alloc(), &Mfroute, b"0", NAMELESS)?;
+    check_faults(rt.alloc(), &Mfroute, FAULTS)?;
+    check_refusals(rt.alloc(), &Mfroute, b"", REFUSED)
 }

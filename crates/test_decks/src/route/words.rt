@@ -1,6 +1,7 @@
 // The words of each fault that is not among the statuses, as the table of faults has them.
 use std::io::{self, ErrorKind};
 use std::test::Fail;
+use test_kit::check_texts;
 use xb_command::OpenFault;
 use xb_outgoing::OutgoingFault;
 use xb_route::{NumberFault, RoutingFault};
@@ -8,7 +9,7 @@ use xb_routes::RouteFault;
 
 #[test]
 fn words_of_faults(rt: HostRuntime) -> Result<(), Fail> {
-    let faults = [
+    let faults = &[
         (
             RoutingFault::Table(OutgoingFault::Routes(RouteFault::Twice(2))),
             "route table: route 2 repeats a code",
@@ -23,10 +24,7 @@ fn words_of_faults(rt: HostRuntime) -> Result<(), Fail> {
         ),
         (RoutingFault::NoMemory, "out of memory"),
     ];
-    for (fault, words) in faults {
-        let written = format!(in rt.alloc(); "{fault}")?;
-        assert_eq!(rt; written.as_str(), words);
-    }
+    check_texts(rt.alloc(), faults)?;
     let error = io::Error::from(ErrorKind::NotFound);
     let file = RoutingFault::File(OpenFault::System("own.routes", error));
     let written = format!(in rt.alloc(); "{file}")?;

@@ -18,27 +18,15 @@ struct OperatorInRounds<'a> {
 }
 
 impl<'a> Schedule for OperatorInRounds<'a> {
-    fn play<A: Abort, P: Played>(
-        &self,
-        rt: &A,
-        chain: &mut P,
-        wanted: &Wanted,
-    ) -> Result<(), Fail> {
+    fn play<A: Abort, P: Played>(&self, rt: &A, chain: &mut P, tapes: &Wanted) -> Result<(), Fail> {
         assert_eq!(rt; chain.turn(Post::Tape)?, Turn::Idle);
         assert_eq!(rt; chain.turn(Post::Send(7))?, Turn::Idle);
-        play_rounds(rt, chain, wanted, self.posts, 200)?;
+        play_rounds(rt, chain, tapes, self.posts, 200)?;
         assert!(rt; chain.ended());
         let line = LineNo::new(5).ok_or("a line")?;
         assert_eq!(rt; chain.marks(line), operator_marks()?.as_slice());
         Ok(())
     }
-}
-
-#[test]
-fn replay_in_rounds(rt: HostRuntime) -> Result<(), Fail> {
-    let posts = round_of(rt.alloc(), 2)?;
-    let deck = deck_of(rt.alloc(), &OPERATOR_CALL)?;
-    deck.play(&rt, rt.alloc(), 2, 1, &OperatorInRounds { posts: &posts })
 }
 
 // Rounds to the end.
@@ -48,22 +36,19 @@ struct ToTheEnd<'a> {
 }
 
 impl<'a> Schedule for ToTheEnd<'a> {
-    fn play<A: Abort, P: Played>(
-        &self,
-        rt: &A,
-        chain: &mut P,
-        wanted: &Wanted,
-    ) -> Result<(), Fail> {
-        play_rounds(rt, chain, wanted, self.posts, 1_000)?;
-        assert!(rt; wanted.are_given_by(chain));
+    fn play<A: Abort, P: Played>(&self, rt: &A, chain: &mut P, tapes: &Wanted) -> Result<(), Fail> {
+        play_rounds(rt, chain, tapes, self.posts, 1_000)?;
+        assert!(rt; tapes.are_given_by(chain));
         Ok(())
     }
 }
 
-// From the feed to the tape, and from the tape to the feed.
+// Until the operator is called; and another deck from the feed to the tape, and from the tape to the feed.
 #[test]
-fn replay_in_both_orders(rt: HostRuntime) -> Result<(), Fail> {
+fn replay_in_rounds(rt: HostRuntime) -> Result<(), Fail> {
     let mut posts = round_of(rt.alloc(), 2)?;
+    let deck = deck_of(rt.alloc(), &OPERATOR_CALL)?;
+    deck.play(&rt, rt.alloc(), 2, 1, &OperatorInRounds { posts: &posts })?;
     let deck = deck_of(rt.alloc(), &SECOND_CALL)?;
     deck.play(&rt, rt.alloc(), 2, 1, &ToTheEnd { posts: &posts })?;
     posts.reverse();
@@ -78,13 +63,8 @@ struct WithoutSender<'a> {
 }
 
 impl<'a> Schedule for WithoutSender<'a> {
-    fn play<A: Abort, P: Played>(
-        &self,
-        rt: &A,
-        chain: &mut P,
-        wanted: &Wanted,
-    ) -> Result<(), Fail> {
-        play_rounds(rt, chain, wanted, self.posts, 1_000)?;
+    fn play<A: Abort, P: Played>(&self, rt: &A, chain: &mut P, tapes: &Wanted) -> Result<(), Fail> {
+        play_rounds(rt, chain, tapes, self.posts, 1_000)?;
         assert!(rt; !chain.ended());
         let line = LineNo::new(3).ok_or("a line")?;
         assert_eq!(rt; chain.marks(line), self.marks);

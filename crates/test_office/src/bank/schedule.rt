@@ -9,7 +9,7 @@ use xb_ring::Post;
 /// Which post makes the next turn, and what is to come of it.
 pub trait Schedule {
     /// Makes the turns of a chain that has made none.
-    fn play<A: Abort, P: Played>(&self, rt: &A, chain: &mut P, wanted: &Wanted) -> Result<(), Fail>;
+    fn play<A: Abort, P: Played>(&self, rt: &A, chain: &mut P, tapes: &Wanted) -> Result<(), Fail>;
 }
 
 /// All posts of a chain with so many senders, each once, the feed first and the tape last.

@@ -18,16 +18,11 @@ struct Starved<'a> {
 }
 
 impl<'a> Schedule for Starved<'a> {
-    fn play<A: Abort, P: Played>(
-        &self,
-        rt: &A,
-        chain: &mut P,
-        wanted: &Wanted,
-    ) -> Result<(), Fail> {
-        play_rounds(rt, chain, wanted, self.others, 1_000)?;
+    fn play<A: Abort, P: Played>(&self, rt: &A, chain: &mut P, tapes: &Wanted) -> Result<(), Fail> {
+        play_rounds(rt, chain, tapes, self.others, 1_000)?;
         assert!(rt; !chain.ended(), "{}, {}", self.name, self.post);
-        play_rounds(rt, chain, wanted, self.all, 2_000)?;
-        assert!(rt; wanted.are_given_by(chain), "{}, {}", self.name, self.post);
+        play_rounds(rt, chain, tapes, self.all, 2_000)?;
+        assert!(rt; tapes.are_given_by(chain), "{}, {}", self.name, self.post);
         Ok(())
     }
 }

@@ -78,15 +78,10 @@ struct Walk<'a> {
 }
 
 impl<'a> Schedule for Walk<'a> {
-    fn play<A: Abort, P: Played>(
-        &self,
-        rt: &A,
-        chain: &mut P,
-        wanted: &Wanted,
-    ) -> Result<(), Fail> {
-        walk_at_random(rt, chain, wanted, self.posts, self.dice)?;
-        play_rounds(rt, chain, wanted, self.posts, LAST_ROUNDS)?;
-        assert!(rt; wanted.are_given_by(chain));
+    fn play<A: Abort, P: Played>(&self, rt: &A, chain: &mut P, tapes: &Wanted) -> Result<(), Fail> {
+        walk_at_random(rt, chain, tapes, self.posts, self.dice)?;
+        play_rounds(rt, chain, tapes, self.posts, LAST_ROUNDS)?;
+        assert!(rt; tapes.are_given_by(chain));
         Ok(())
     }
 }

@@ -153,16 +153,11 @@ fn have_nights<R: Threads + Wait + Clock + Sync>(
 }
 
 #[test]
-fn operate_has_the_room_that_it_is_asked_for(rt: HostRuntime) -> Result<(), Fail> {
+fn operate_has_the_room_and_the_senders_that_it_is_asked_for(rt: HostRuntime) -> Result<(), Fail> {
     let waits = have_nights(&rt, rt.alloc(), POSTS_OF_ONE, TWO_NIGHTS, 1, 1)?;
     assert!(rt; waits, "no post waits for room");
     let waits = have_nights(&rt, rt.alloc(), POSTS_OF_ONE, TWO_NIGHTS, 1, 1_024)?;
     assert!(rt; !waits, "the feed waits for room");
-    Ok(())
-}
-
-#[test]
-fn operate_has_the_senders_that_it_is_asked_for(rt: HostRuntime) -> Result<(), Fail> {
     let are_there = have_nights(&rt, rt.alloc(), POSTS_OF_EIGHT, 1, 8, 1)?;
     assert!(rt; are_there, "fifteen posts are not asleep at once");
     Ok(())

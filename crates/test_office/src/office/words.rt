@@ -84,19 +84,13 @@ fn check_run<R: Threads + Wait + Clock + Abort + Sync>(
 }
 
 #[test]
-fn accepted_words_give_the_page(rt: HostRuntime) -> Result<(), Fail> {
+fn words_give_the_page_or_the_usage(rt: HostRuntime) -> Result<(), Fail> {
     let deck = usual_deck(rt.alloc(), &OPERATOR_CALL)?;
     let page = page_of(rt.alloc(), OPERATOR_CALL.page)?;
     let wanted = (DONE, page.as_str(), "", 0);
     for words in ACCEPTED {
         check_run(&rt, rt.alloc(), words, deck.as_str(), wanted)?;
     }
-    Ok(())
-}
-
-#[test]
-fn refused_words_tell_the_usage(rt: HostRuntime) -> Result<(), Fail> {
-    let deck = usual_deck(rt.alloc(), &OPERATOR_CALL)?;
     let wanted = (WORDS_REFUSED, "", USAGE, deck.len());
     for words in REFUSED {
         check_run(&rt, rt.alloc(), words, deck.as_str(), wanted)?;

@@ -1,21 +1,25 @@
 // Pages that are joined, and pages that are damaged or out of their place, written by hand.
 use std::alloc::Global;
 use std::test::Fail;
-use xb_join::{Damage, Joiner, PartPage, PartsFault, join_pages};
+use test_kit::check_texts;
 use xb_model::LINES;
-use xb_parts::LineRange;
+use xb_parts::{Damage, Joiner, LineRange, PartPage, PartsFault, join_pages};
 
-const FIRST: &[u8] = b"0000 1 REFUSED UNKNOWN 3\n\
+/// The page of the lines before 9999.
+pub const FIRST: &[u8] = b"0000 1 REFUSED UNKNOWN 3\n\
 0007 1 KEYED 0001 KP:1100+1700 0:1300+1500 ST:1500+1700\n\
 0007 2 REFUSED ABANDONED 0\n\
 KEYED 1 REFUSED 2\n";
 
 const NONE: &[u8] = b"KEYED 0 REFUSED 0\n";
 
-const LAST: &[u8] = b"9999 1 KEYED 0003 KP:1100+1700 4:700+1300 1:700+900 1:700+900 ST:1500+1700\n\
+/// The page of line 9999.
+pub const LAST: &[u8] =
+    b"9999 1 KEYED 0003 KP:1100+1700 4:700+1300 1:700+900 1:700+900 ST:1500+1700\n\
 KEYED 1 REFUSED 0\n";
 
-const WHOLE: &[u8] = b"0000 1 REFUSED UNKNOWN 3\n\
+/// The page of both.
+pub const WHOLE: &[u8] = b"0000 1 REFUSED UNKNOWN 3\n\
 0007 1 KEYED 0001 KP:1100+1700 0:1300+1500 ST:1500+1700\n\
 0007 2 REFUSED ABANDONED 0\n\
 9999 1 KEYED 0003 KP:1100+1700 4:700+1300 1:700+900 1:700+900 ST:1500+1700\n\
@@ -54,10 +58,13 @@ const JOINED: &[(&[Named], &[u8])] = &[
 ];
 
 #[test]
-fn parts_are_joined(rt: HostRuntime) -> Result<(), Fail> {
+fn parts_are_joined_or_do_not_join(rt: HostRuntime) -> Result<(), Fail> {
     for (parts, whole) in JOINED {
         let page = join(rt.alloc(), parts)?;
         assert_eq!(rt; page.as_slice(), *whole);
+    }
+    for (parts, fault) in APART {
+        assert_eq!(rt; join(rt.alloc(), parts).err(), Some(*fault));
     }
     Ok(())
 }
@@ -81,13 +88,6 @@ const APART: &[(&[Named], PartsFault)] = &[
     (&[(0, 7, FIRST), (7, LINES, NONE)], PartsFault::PastEnd(1)),
 ];
 
-#[test]
-fn parts_that_do_not_join(rt: HostRuntime) {
-    for (parts, fault) in APART {
-        assert_eq!(rt; join(rt.alloc(), parts).err(), Some(*fault));
-    }
-}
-
 // Nothing of a part that has a fault is counted.
 #[test]
 fn joiner_goes_on_after_a_fault(rt: HostRuntime) {
@@ -107,15 +107,6 @@ fn joiner_goes_on_after_a_fault(rt: HostRuntime) {
 }
 
 // A page that is cut after any of its bytes is no page.
-#[test]
-fn cut_pages(rt: HostRuntime) {
-    let alloc = rt.alloc();
-    for length in 0..WHOLE.len() {
-        let cut = join(alloc, &[(0, LINES, &WHOLE[..length])]).err();
-        assert_eq!(rt; cut, Some(PartsFault::Part(1, Damage::NoTotals)));
-    }
-}
-
 // What is wrong with the page of the lines from 8 on.
 const DAMAGED: &[(&[u8], Damage)] = &[
     (b"", Damage::NoTotals),
@@ -172,6 +163,14 @@ const DAMAGED: &[(&[u8], Damage)] = &[
 
 #[test]
 fn names_each_damage(rt: HostRuntime) {
+    for length in 0..WHOLE.len() {
+        let cut = join(rt.alloc(), &[(0, LINES, &WHOLE[..length])]).err();
+        assert_eq!(rt;
+            cut,
+            Some(PartsFault::Part(1, Damage::NoTotals)),
+            "{length}"
+        );
+    }
     for (page, damage) in DAMAGED {
         let parts = [(0, 8, FIRST), (8, LINES, *page)];
         let wanted = PartsFault::Part(2, *damage);
@@ -226,10 +225,6 @@ const WORDS: &[(PartsFault, &str)] = &[
 ];
 
 #[test]
-fn words_of_faults(rt: HostRuntime) {
-    for (fault, words) in WORDS {
-        let alloc = rt.alloc();
-        let written = format!(in alloc; "{fault}").expect(&rt, "memory");
-        assert_eq!(rt; written.as_str(), *words);
-    }
+fn words_of_faults(rt: HostRuntime) -> Result<(), Fail> {
+    check_texts(rt.alloc(), WORDS)
 }

@@ -5,9 +5,8 @@ use std::test::Fail;
 use test_kit::attempts::SIX_CALLS;
 use test_kit::decks::one_after_another;
 use xb_model::{Contact, LINES, LineNo, PerLine, Row};
-use xb_parts::{LineRange, part_of};
+use xb_parts::{LineRange, Load, PlanFault, count_row, part_of, plan_ranges};
 use xb_rows::text_of_rows;
-use xb_split::{Load, PlanFault, count_row, plan_ranges};
 
 const MOST: Load = Load {
     records: 1_000_000,

@@ -3,9 +3,11 @@
 use std::alloc::Global;
 use std::io::{self, ErrorKind};
 use std::test::Fail;
-use xb_parts::{LineRange, ListFault, ListedPart, list_of, ranges_of_list};
+use xb_parts::{
+    LineRange, ListFault, ListedPart, PartDecks, PlanFault, PlanPartsFault, count_rows, list_of,
+    plan_parts, ranges_of_list, write_parts,
+};
 use xb_rows::RowReader;
-use xb_split::{PartDecks, PlanFault, PlanPartsFault, count_rows, plan_parts, write_parts};
 
 const TABLE: &[u8] = b"[[route]]\ncode = \"0\"\ntrunk = 1\n";
 

@@ -2,11 +2,14 @@
 use crate::split::splits::TwoDecks;
 use std::alloc::Global;
 use std::io::{self, ErrorKind};
+use std::process::Abort;
 use std::sync::atomic::{AtomicU64, Ordering};
 use std::test::Fail;
-use test_kit::{called, words_of};
-use xb_parts::LineRange;
-use xb_split::{MakeFault, PROGRAM, Request, SplitFiles, attend};
+use test_kit::{Folder, words_of};
+use xb_command::Call;
+use xb_parts::{
+    JOIN_PROGRAM, LineRange, MakeFault, PROGRAM, SPLIT_PROGRAM, SplitFiles, SplitRequest, attend,
+};
 
 const DECK: &[u8] =
     b"[[route]]\ncode = \"0\"\ntrunk = 1\n---\nline,state,ms\n7,M,500\n9999,M,500\n7,B,60\n\
@@ -17,7 +20,7 @@ const NO_CUT: &[u8] = b"[[route]]\ncode = \"0\"\ntrunk = 1\nline,state,ms\n7,M,5
 // A route without its trunk, as `trunk` is written wrong; and the only record is wrong too.
 const NO_TRUNK: &[u8] = b"[[route]]\ncode = \"234\"\ntrunck = 17\n---\nline,state,ms\n7,X,500\n";
 
-const REFUSED_TABLE: &[u8] = b"mfsplit: route table: route 1 has a wrong shape\n";
+const REFUSED_TABLE: &[u8] = b"mfoffice split: route table: route 1 has a wrong shape\n";
 
 const WRONG: &[u8] = b"---\nline,state,ms\n7,M,500\n7,X,500\n";
 
@@ -37,9 +40,12 @@ const CHANGED: [&[u8]; 4] = [
     b"---\nline,state,ms\n1,M,500\n2,X,500\n3,M,500\n",
 ];
 
+// The files of pages, of which a split takes none.
+const NO_PAGES: Folder = Folder(&[]);
+
 // A folder, and which of its calls fails.
 #[derive(Drop)]
-struct Folder {
+pub(crate) struct PartsFolder {
     has_any: bool,
     makes: bool,
     makes_parts: bool,
@@ -51,9 +57,9 @@ struct Folder {
     given_up: bool,
 }
 
-impl Folder {
-    fn new(alloc: Global) -> Folder {
-        Folder {
+impl PartsFolder {
+    pub(crate) fn new(alloc: Global) -> PartsFolder {
+        PartsFolder {
             has_any: false,
             makes: true,
             makes_parts: true,
@@ -71,7 +77,7 @@ fn missing() -> io::Error {
     io::Error::from(ErrorKind::NotFound)
 }
 
-impl SplitFiles for Folder {
+impl SplitFiles for PartsFolder {
     type Deck = &'static [u8];
 
     type Parts = TwoDecks;
@@ -96,7 +102,7 @@ impl SplitFiles for Folder {
     fn make(
         &mut self,
         alloc: Global,
-        _request: &Request<'_>,
+        _request: &SplitRequest<'_>,
         _ranges: &[LineRange],
     ) -> Result<TwoDecks, MakeFault> {
         if !self.makes {
@@ -111,7 +117,7 @@ impl SplitFiles for Folder {
     fn name(
         &mut self,
         _alloc: Global,
-        _request: &Request<'_>,
+        _request: &SplitRequest<'_>,
         parts: TwoDecks,
         list: &str,
     ) -> io::Result<()> {
@@ -123,108 +129,164 @@ impl SplitFiles for Folder {
         Ok(())
     }
 
-    fn give_up(&mut self, _alloc: Global, _request: &Request<'_>, _parts: TwoDecks) {
+    fn give_up(&mut self, _alloc: Global, _request: &SplitRequest<'_>, _parts: TwoDecks) {
         self.given_up = true;
     }
 }
 
-// Whether these words have this status in a folder, and this is what stands on standard error.
+// Whether all words, the program's name first, have this status in a folder, and this stands on standard error.
+fn all_end_so(
+    folder: &mut PartsFolder,
+    alloc: Global,
+    words: &[String],
+    status: u8,
+    line: &[u8],
+) -> bool {
+    let call = Call {
+        program: &PROGRAM,
+        words,
+        is_typed: false,
+        is_shown: false,
+    };
+    let mut input = b"not read".as_slice();
+    let (mut out, mut err) = (Vec::new(alloc), Vec::new(alloc));
+    let ended = attend(
+        alloc,
+        &call,
+        &SPLIT_PROGRAM,
+        &JOIN_PROGRAM,
+        folder,
+        &NO_PAGES,
+        &mut input,
+        &mut out,
+        &mut err,
+    );
+    ended == status && input.len() == 8 && out.is_empty() && err.as_slice() == line
+}
+
+// The same of the words after the name.
 fn ends_so(
-    folder: &mut Folder,
+    folder: &mut PartsFolder,
     alloc: Global,
     words: &[&str],
     status: u8,
     line: &[u8],
 ) -> Result<bool, Fail> {
-    let words = words_of(alloc, "mfsplit", words)?;
-    let call = called(&PROGRAM, &words);
+    let all = words_of(alloc, "mfoffice", words)?;
+    Ok(all_end_so(folder, alloc, &all, status, line))
+}
+
+// The version is written in place of parts.
+fn check_version(rt: &impl Abort, alloc: Global) -> Result<(), Fail> {
+    let mut folder = PartsFolder::new(alloc);
+    let words = words_of(alloc, "mfoffice", &["split", "deck", "parts", "--version"])?;
+    let call = Call {
+        program: &PROGRAM,
+        words: &words,
+        is_typed: false,
+        is_shown: false,
+    };
+    let mut input = b"".as_slice();
     let (mut out, mut err) = (Vec::new(alloc), Vec::new(alloc));
-    let ended = attend(alloc, &call, folder, &mut out, &mut err);
-    Ok(ended == status && out.is_empty() && err.as_slice() == line)
+    let status = attend(
+        alloc,
+        &call,
+        &SPLIT_PROGRAM,
+        &JOIN_PROGRAM,
+        &mut folder,
+        &NO_PAGES,
+        &mut input,
+        &mut out,
+        &mut err,
+    );
+    assert_eq!(rt; status, 0);
+    assert_eq!(rt; out.as_slice(), b"mfoffice split 0.5\n".as_slice());
+    assert!(rt; err.is_empty() && folder.decks.is_none());
+    Ok(())
 }
 
 #[test]
 fn parts_and_their_list(rt: HostRuntime) -> Result<(), Fail> {
     let alloc = rt.alloc();
-    let mut folder = Folder::new(alloc);
-    assert!(rt; ends_so(&mut folder, alloc, &["deck", "parts"], 0, b"")?);
+    let mut folder = PartsFolder::new(alloc);
+    assert!(rt; ends_so(&mut folder, alloc, &["split", "deck", "parts"], 0, b"")?);
     assert_eq!(rt; folder.list.as_str(), LIST);
     match &folder.decks {
         Some(decks) => assert_eq!(rt; decks.low.as_slice(), DECK),
         None => assert!(rt; false),
     }
-    Ok(())
+    check_version(&rt, alloc)
 }
 
 // The words, the status, and what stands on standard error.
 const FAULTS: &[(&[&str], u8, &[u8])] = &[
     (
-        &["none", "parts"],
+        &["split", "none", "parts"],
         1,
-        b"mfsplit: the deck could not be opened: none: entity not found\n",
+        b"mfoffice split: the deck could not be opened: none: entity not found\n",
     ),
     (
-        &["no\nsuch\x1bdeck", "parts"],
+        &["split", "no\nsuch\x1bdeck", "parts"],
         1,
-        b"mfsplit: the deck could not be opened: no?such?deck: entity not found\n",
+        b"mfoffice split: the deck could not be opened: no?such?deck: entity not found\n",
     ),
     (
-        &["no cut", "parts"],
+        &["split", "no cut", "parts"],
         1,
-        b"mfsplit: the deck has no line ---\n",
+        b"mfoffice split: the deck has no line ---\n",
     ),
-    (&["no trunk", "parts"], 1, REFUSED_TABLE),
+    (&["split", "no trunk", "parts"], 1, REFUSED_TABLE),
     (
-        &["wrong", "parts"],
+        &["split", "wrong", "parts"],
         1,
-        b"mfsplit: loop rows: record 2 has a wrong state\n",
-    ),
-    (
-        &["deck", "parts", "--parts", "0"],
-        1,
-        b"mfsplit: a deck has at least one part\n",
+        b"mfoffice split: loop rows: record 2 has a wrong state\n",
     ),
     (
-        &["deck", "parts", "--parts", "501"],
+        &["split", "deck", "parts", "--parts", "0"],
         1,
-        b"mfsplit: there would be 501 parts, and the most is 500\n",
+        b"mfoffice split: a deck has at least one part\n",
     ),
     (
-        &["three", "parts", "--parts", "4"],
+        &["split", "deck", "parts", "--parts", "501"],
         1,
-        b"mfsplit: a part could not be written: entity not found\n",
+        b"mfoffice split: there would be 501 parts, and the most is 500\n",
     ),
     (
-        &[],
+        &["split", "three", "parts", "--parts", "4"],
+        1,
+        b"mfoffice split: a part could not be written: entity not found\n",
+    ),
+    (
+        &["split"],
         2,
-        b"mfsplit: the following required arguments were not provided: <DECK> <FOLDER>; mfsplit --help says more\n",
+        b"mfoffice split: the following required arguments were not provided: <DECK> <FOLDER>; mfoffice split --help says more\n",
     ),
     (
-        &["deck", "--parts", "2"],
+        &["split", "deck", "--parts", "2"],
         2,
-        b"mfsplit: the following required arguments were not provided: <FOLDER>; mfsplit --help says more\n",
+        b"mfoffice split: the following required arguments were not provided: <FOLDER>; mfoffice split --help says more\n",
     ),
     (
-        &["deck", "parts", "more"],
+        &["split", "deck", "parts", "more"],
         2,
-        b"mfsplit: there is one word too many, 'more'; mfsplit --help says more\n",
+        b"mfoffice split: there is one word too many, 'more'; mfoffice split --help says more\n",
     ),
     (
-        &["deck", "parts", "--parts", "few"],
+        &["split", "deck", "parts", "--parts", "few"],
         2,
-        b"mfsplit: invalid value 'few' for '--parts <N>': a whole number is wanted, from 0; mfsplit --help says more\n",
+        b"mfoffice split: invalid value 'few' for '--parts <N>': a whole number is wanted, from 0; mfoffice split --help says more\n",
     ),
     (
-        &["deck", "parts", "--part", "2"],
+        &["split", "deck", "parts", "--part", "2"],
         2,
-        b"mfsplit: there is no option '--part'; a similar argument exists: '--parts'; mfsplit --help says more\n",
+        b"mfoffice split: there is no option '--part'; a similar argument exists: '--parts'; mfoffice split --help says more\n",
     ),
 ];
 
 #[test]
 fn faults_leave_no_list(rt: HostRuntime) -> Result<(), Fail> {
     let alloc = rt.alloc();
-    let mut folder = Folder::new(alloc);
+    let mut folder = PartsFolder::new(alloc);
     for (words, status, line) in FAULTS {
         assert!(rt; ends_so(&mut folder, alloc, words, *status, line)?);
         assert_eq!(rt; folder.list.as_str(), "");
@@ -232,40 +294,43 @@ fn faults_leave_no_list(rt: HostRuntime) -> Result<(), Fail> {
     // the deck of the third part could not be written
     assert!(rt; folder.given_up);
     folder.has_any = true;
-    let not_empty = b"mfsplit: the folder is not empty\n";
-    assert!(rt; ends_so(&mut folder, alloc, &["deck", "parts"], 1, not_empty)?);
-    Ok(())
-}
-
-#[test]
-fn the_version_is_written(rt: HostRuntime) -> Result<(), Fail> {
-    let alloc = rt.alloc();
-    let mut folder = Folder::new(alloc);
-    let words = words_of(alloc, "mfsplit", &["deck", "parts", "--version"])?;
-    let call = called(&PROGRAM, &words);
-    let (mut out, mut err) = (Vec::new(alloc), Vec::new(alloc));
-    assert_eq!(rt; attend(alloc, &call, &mut folder, &mut out, &mut err), 0);
-    assert_eq!(rt; out.as_slice(), b"mfsplit 0.5\n".as_slice());
-    assert!(rt; err.is_empty() && folder.decks.is_none());
+    let not_empty = b"mfoffice split: the folder is not empty\n";
+    assert!(rt;
+        ends_so(
+            &mut folder,
+            alloc,
+            &["split", "deck", "parts"],
+            1,
+            not_empty
+        )?
+    );
     Ok(())
 }
 
 #[test]
 fn folders_that_fail(rt: HostRuntime) -> Result<(), Fail> {
     let alloc = rt.alloc();
-    let mut folder = Folder::new(alloc);
+    let mut folder = PartsFolder::new(alloc);
     folder.names = false;
-    let no_name = b"mfsplit: the folder could not be used: entity not found\n";
-    assert!(rt; ends_so(&mut folder, alloc, &["deck", "parts"], 1, no_name)?);
+    let no_name = b"mfoffice split: the folder could not be used: entity not found\n";
+    assert!(rt; ends_so(&mut folder, alloc, &["split", "deck", "parts"], 1, no_name)?);
     folder.makes_parts = false;
-    let no_part = b"mfsplit: a part could not be made: entity not found\n";
-    assert!(rt; ends_so(&mut folder, alloc, &["deck", "parts"], 1, no_part)?);
+    let no_part = b"mfoffice split: a part could not be made: entity not found\n";
+    assert!(rt; ends_so(&mut folder, alloc, &["split", "deck", "parts"], 1, no_part)?);
     folder.makes = false;
     let none =
-        b"mfsplit: the folder with .incomplete after its name could not be made: entity not found\n";
-    assert!(rt; ends_so(&mut folder, alloc, &["deck", "parts"], 1, none)?);
+        b"mfoffice split: the folder with .incomplete after its name could not be made: entity not found\n";
+    assert!(rt; ends_so(&mut folder, alloc, &["split", "deck", "parts"], 1, none)?);
     // nothing is made of a deck whose table is refused
-    assert!(rt; ends_so(&mut folder, alloc, &["no trunk", "parts"], 1, REFUSED_TABLE)?);
+    assert!(rt;
+        ends_so(
+            &mut folder,
+            alloc,
+            &["split", "no trunk", "parts"],
+            1,
+            REFUSED_TABLE
+        )?
+    );
     assert_eq!(rt; folder.list.as_str(), "");
     Ok(())
 }
@@ -273,15 +338,23 @@ fn folders_that_fail(rt: HostRuntime) -> Result<(), Fail> {
 #[test]
 fn changes_between_the_readings_are_told(rt: HostRuntime) -> Result<(), Fail> {
     let alloc = rt.alloc();
-    let changed = b"mfsplit: the deck has changed while it was split\n";
+    let changed = b"mfoffice split: the deck has changed while it was split\n";
     for again in CHANGED {
-        let mut folder = Folder::new(alloc);
+        let mut folder = PartsFolder::new(alloc);
         folder.again = again;
-        assert!(rt; ends_so(&mut folder, alloc, &["counted", "parts"], 1, changed)?);
+        assert!(rt;
+            ends_so(
+                &mut folder,
+                alloc,
+                &["split", "counted", "parts"],
+                1,
+                changed
+            )?
+        );
         assert_eq!(rt; folder.list.as_str(), "");
         assert!(rt; folder.given_up);
     }
-    let mut folder = Folder::new(alloc);
-    assert!(rt; ends_so(&mut folder, alloc, &["counted", "parts"], 0, b"")?);
+    let mut folder = PartsFolder::new(alloc);
+    assert!(rt; ends_so(&mut folder, alloc, &["split", "counted", "parts"], 0, b"")?);
     Ok(())
 }

@@ -1,10 +1,9 @@
 // The program, called by words, and the files that these name.
 use crate::rx::statuses::FILE;
 use std::alloc::Global;
-use std::io::{Read, Write};
-use test_kit::Folder;
-use xb_command::Call;
-use xb_rx::{PROGRAM, attend};
+use test_kit::{Folder, Program, Streams};
+use xb_command::{Call, attend};
+use xb_rx::{Asked, PROGRAM};
 
 // Two keyings, of which the tests sound other ones.
 const PAGE: &[u8] = b"0007 1 KEYED 0017 KP:1100+1700 5:900+1300 0:1300+1500 ST:1500+1700\n\
@@ -20,19 +19,23 @@ const FOLDER: Folder = Folder(&[
     ("damaged", b"KEYED 1 REFUSED 0\n"),
 ]);
 
-// Does what the words of a command line ask for, and gives the status.
-pub(crate) fn heard<R: Read, W: Write, E: Write>(
-    alloc: Global,
-    words: &[String],
-    reader: &mut R,
-    out: &mut W,
-    err: &mut E,
-) -> u8 {
-    let call = Call {
-        program: &PROGRAM,
-        words,
-        is_typed: false,
-        is_shown: false,
-    };
-    attend(alloc, &call, &FOLDER, reader, out, err)
+/// The program `mfrx`.
+#[derive(Clone, Copy)]
+pub(crate) struct Mfrx;
+
+impl Program for Mfrx {
+    fn name(&self) -> &'static str {
+        "mfrx"
+    }
+
+    fn attend(&self, alloc: Global, words: &[String], streams: Streams<'_, '_>) -> u8 {
+        let Streams { reader, out, err } = streams;
+        let call = Call {
+            program: &PROGRAM,
+            words,
+            is_typed: false,
+            is_shown: false,
+        };
+        attend::<Asked<'_>, _, _, _, _>(alloc, &call, &FOLDER, reader, out, err)
+    }
 }

@@ -1,8 +1,8 @@
 // A key whose tones are off, in a sound that is reckoned here.
-use crate::rx::calling::heard;
+use crate::rx::calling::Mfrx;
 use std::alloc::Global;
 use std::test::Fail;
-use test_kit::words_of;
+use test_kit::{Gives, check_status};
 
 // A sine, in parts of 2^16. Its next sample is 2^30 parts of a factor, twice the cosine of its step, times this one, less
 // the one before.
@@ -71,12 +71,11 @@ fn measures_tones_that_are_off(rt: HostRuntime) -> Result<(), Fail> {
     push_silence(&mut bytes, 800)?;
     push_tones(&mut bytes)?;
     push_silence(&mut bytes, 800)?;
-    let words = words_of(alloc, "mfrx", &["--format=s16", "--tones"])?;
-    let mut reader = bytes.as_slice();
-    let mut out = Vec::new(alloc);
-    let mut err = Vec::new(alloc);
-    let status = heard(alloc, &words, &mut reader, &mut out, &mut err);
-    assert!(rt; status == 0 && err.is_empty());
-    assert!(rt; out.as_slice() == KEY);
-    Ok(())
+    check_status(
+        alloc,
+        &Mfrx,
+        &["--format=s16", "--tones"],
+        &bytes,
+        Gives::page(KEY),
+    )
 }

@@ -1,10 +1,10 @@
 // The page of a sound that xb_sound wrote.
-use crate::rx::calling::heard;
+use crate::rx::calling::Mfrx;
 use sha1::Sha1;
 use std::alloc::Global;
 use std::test::Fail;
+use test_kit::attended;
 use test_kit::marks::keying;
-use test_kit::words_of;
 use xb_sound::{Cadence, write_wav};
 
 // The page of two keyings, worked out by hand.
@@ -109,16 +109,11 @@ fn written(
     options: &[&str],
     wanted: u8,
 ) -> Result<Vec<u8>, Fail> {
-    let file = sound(alloc, numbers)?;
-    let words = words_of(alloc, "mfrx", options)?;
-    let mut reader = file.as_slice();
-    let mut out = Vec::new(alloc);
-    let mut err = Vec::new(alloc);
-    let status = heard(alloc, &words, &mut reader, &mut out, &mut err);
-    if status != wanted || (status == 0 && !err.is_empty()) {
-        return Err("another status".into());
+    let (written, told) = heard_by(alloc, &sound(alloc, numbers)?, options, wanted)?;
+    if wanted == 0 && !told.is_empty() {
+        return Err("a line is told".into());
     }
-    Ok(out)
+    Ok(written)
 }
 
 // What is heard of the first of them where bytes of its file are silence.
@@ -141,27 +136,27 @@ const SPOILT: &[Spoilt] = &[
         from: 12_244,
         to: 14_844,
         page: b"0000 1 KEYED 0000 KP:1100+1700 5:900+1300 ST:1500+1700\nKEYED 1 REFUSED 0\n",
-        told: b"mfrx: entry 1 at 0.500 s: 202 ms between its keys 2 and 3: one may be missing\n",
-        object: b"{\"doubts\":[{\"key\":3,\"kind\":\"LONG_GAP\",\"may_be\":\"MISSING\",\"ms\":202,\"wanted_ms\":68}],\
+        told: b"mfrx: entry 1 at 0.500 s: 202 ms between its keys 2 and 3, where 67 are usual: one may be missing\n",
+        object: b"{\"doubts\":[{\"key\":3,\"kind\":\"LONG_GAP\",\"may_be\":\"MISSING\",\"ms\":202,\"usual_ms\":67}],\
 \"entry\":1,\"from_ms\":500,\"keys\":[\"KP\",\"5\",\"ST\"],\"sent\":\"5\",\"to_ms\":1007}\n",
     },
-    // from 840 to 925 ms: the end of its 0
+    // from 833 to 925 ms: the end of its 0
     Spoilt {
-        from: 13_484,
+        from: 13_372,
         to: 14_844,
         page: b"0000 1 KEYED 0000 KP:1100+1700 5:900+1300 0:1300+1500 ST:1500+1700\nKEYED 1 REFUSED 0\n",
-        told: b"mfrx: entry 1 at 0.500 s: its key 3 lasts 37 ms, not 68 give or take 14: one may be too many\n",
-        object: b"{\"doubts\":[{\"key\":3,\"kind\":\"SHORT_KEY\",\"may_be\":\"EXTRA\",\"ms\":37,\"wanted_ms\":68}],\
+        told: b"mfrx: entry 1 at 0.500 s: its key 3 lasts 30 ms, where 67 are usual: one may be too many\n",
+        object: b"{\"doubts\":[{\"key\":3,\"kind\":\"SHORT_KEY\",\"may_be\":\"EXTRA\",\"ms\":30,\"usual_ms\":67}],\
 \"entry\":1,\"from_ms\":500,\"keys\":[\"KP\",\"5\",\"0\",\"ST\"],\"sent\":\"50\",\"to_ms\":1007}\n",
     },
-    // from 500 to 525 ms: the beginning of its KP
+    // from 970 to 1010 ms: the end of its ST
     Spoilt {
-        from: 8_044,
-        to: 8_444,
+        from: 15_564,
+        to: 16_204,
         page: b"0000 1 KEYED 0000 KP:1100+1700 5:900+1300 0:1300+1500 ST:1500+1700\nKEYED 1 REFUSED 0\n",
-        told: b"mfrx: entry 1 at 0.525 s: its key 1 lasts 75 ms, not 100 give or take 14: it may be cut\n",
-        object: b"{\"doubts\":[{\"key\":1,\"kind\":\"SHORT_KEY\",\"may_be\":\"CUT\",\"ms\":75,\"wanted_ms\":100}],\
-\"entry\":1,\"from_ms\":525,\"keys\":[\"KP\",\"5\",\"0\",\"ST\"],\"sent\":\"50\",\"to_ms\":1007}\n",
+        told: b"mfrx: entry 1 at 0.500 s: its key 4 lasts 30 ms, where 67 are usual: it may be cut\n",
+        object: b"{\"doubts\":[{\"key\":4,\"kind\":\"SHORT_KEY\",\"may_be\":\"CUT\",\"ms\":30,\"usual_ms\":67}],\
+\"entry\":1,\"from_ms\":500,\"keys\":[\"KP\",\"5\",\"0\",\"ST\"],\"sent\":\"50\",\"to_ms\":970}\n",
     },
 ];
 
@@ -172,14 +167,12 @@ fn heard_by(
     options: &[&str],
     wanted: u8,
 ) -> Result<(Vec<u8>, Vec<u8>), Fail> {
-    let words = words_of(alloc, "mfrx", options)?;
-    let mut reader = file;
-    let mut out = Vec::new(alloc);
-    let mut err = Vec::new(alloc);
-    if heard(alloc, &words, &mut reader, &mut out, &mut err) != wanted {
-        return Err("another status".into());
+    let gave = attended(alloc, &Mfrx, options, file)?;
+    if gave.status != wanted {
+        let status = gave.status;
+        return Err(Fail::new(format_args!("{options:?}: status {status}")));
     }
-    Ok((out, err))
+    Ok((gave.written, gave.line))
 }
 
 // The same with status 0.
@@ -215,13 +208,9 @@ fn tells_what_is_doubtful(rt: HostRuntime) -> Result<(), Fail> {
     Ok(())
 }
 
-// A keying of 5 by a sender that keys 90 ms in place of 68, and so what the second receiver hears.
-const SLOW: &[u8] =
-    b"mfrx: entry 1 at 0.500 s: its key 2 lasts 90 ms, not 68 give or take 14: one may be missing\n\
-mfrx: entry 1 at 0.500 s: its key 3 lasts 92 ms, not 68 give or take 14: one may be missing\n";
-
+// A sender that keys 90 ms in place of 68 keeps to a rhythm.
 #[test]
-fn tells_keys_that_are_too_long(rt: HostRuntime) -> Result<(), Fail> {
+fn doubts_no_slow_sender(rt: HostRuntime) -> Result<(), Fail> {
     let alloc = rt.alloc();
     let marks = keying(alloc, 3, &[5])?;
     let slow = Cadence {
@@ -233,21 +222,22 @@ fn tells_keys_that_are_too_long(rt: HostRuntime) -> Result<(), Fail> {
         return Err("no sound".into());
     }
     let (_, told) = heard_in(alloc, &file, &[])?;
-    assert!(rt; told.as_slice() == SLOW);
+    assert!(rt; told.is_empty());
     Ok(())
 }
 
-#[test]
-fn writes_the_page_of_a_sound(rt: HostRuntime) -> Result<(), Fail> {
-    let page = written(rt.alloc(), NUMBERS, &["--line", "42", "--trunk", "17"], 0)?;
-    assert!(rt; page.as_slice() == PAGE);
-    Ok(())
-}
+// The words, and what is written of the two by them.
+const BY_WORDS: &[(&[&str], &[u8])] = &[
+    (&["--line", "42", "--trunk", "17"], PAGE),
+    (&["--tones"], KEYS),
+];
 
 #[test]
-fn tells_each_key(rt: HostRuntime) -> Result<(), Fail> {
-    let keys = written(rt.alloc(), NUMBERS, &["--tones"], 0)?;
-    assert!(rt; keys.as_slice() == KEYS);
+fn writes_the_page_and_tells_each_key(rt: HostRuntime) -> Result<(), Fail> {
+    for (words, wanted) in BY_WORDS {
+        let came = written(rt.alloc(), NUMBERS, words, 0)?;
+        assert!(rt; came.as_slice() == *wanted, "{words:?}");
+    }
     let objects = written(rt.alloc(), NUMBERS, &["--json"], 0)?;
     assert!(rt; objects.starts_with(OBJECT));
     assert!(rt; objects.ends_with(SECOND_ENTRY));

@@ -1,29 +1,7 @@
 // Words, sounds and streams in; a status and lines of faults out.
-use crate::rx::calling::heard;
-use std::alloc::Global;
+use crate::rx::calling::Mfrx;
 use std::test::Fail;
-use test_kit::{Gives, Halting, Program, Short, check_reads, check_status};
-
-// The program `mfrx`.
-#[derive(Clone, Copy)]
-struct Mfrx;
-
-impl Program for Mfrx {
-    fn name(&self) -> &'static str {
-        "mfrx"
-    }
-
-    fn attend(
-        &self,
-        alloc: Global,
-        words: &[String],
-        reader: &mut Halting<'_>,
-        out: &mut Short,
-        err: &mut Vec<u8>,
-    ) -> u8 {
-        heard(alloc, words, reader, out, err)
-    }
-}
+use test_kit::{Case, Fault, Refusal, check_cases, check_faults, check_reads, check_refusals};
 
 // A file of two samples of silence, after a chunk of three bytes that says nothing.
 pub(crate) const FILE: &[u8] = b"RIFF\x34\0\0\0WAVELIST\x03\0\0\0abc\0\
@@ -54,7 +32,7 @@ const TWO: &[u8] = b"\0\0\xe8\x03\0\0\xe8\x03\0\0\xe8\x03\0\0\xe8\x03\
 // The words after the program's name, the sound, the status, what is written, and what stands on standard error.
 // The bytes by mu-law are -356, -340, -324, -308, -292 and -276, and so the samples after silence -1, 0 and 11, by the
 // formula of DEFINITIONS in Python.
-const CASES: &[(&[&str], &[u8], u8, &[u8], &[u8])] = &[
+const CASES: &[Case] = &[
     (&[], FILE, 0, b"KEYED 0 REFUSED 0\n", SILENCE),
     (&["--format=s16"], b"", 0, b"KEYED 0 REFUSED 0\n", SILENCE),
     (
@@ -80,34 +58,6 @@ const CASES: &[(&[&str], &[u8], u8, &[u8], &[u8])] = &[
     ),
     (&["--channel", "1", "--json"], FILE, 0, b"", SILENCE),
     (
-        &["--channel", "2"],
-        FILE,
-        1,
-        b"",
-        b"mfrx: the sound is no WAV file that can be heard: the chunk \"fmt \" has 1 channels, and --channel names another one\n",
-    ),
-    (
-        &["--channel", "0"],
-        FILE,
-        2,
-        b"",
-        b"mfrx: invalid value '0' for '--channel <N>': 0 is not in 1..=8; mfrx --help says more\n",
-    ),
-    (
-        &["--channel", "9"],
-        FILE,
-        2,
-        b"",
-        b"mfrx: invalid value '9' for '--channel <N>': 9 is not in 1..=8; mfrx --help says more\n",
-    ),
-    (
-        &["--channels", "1"],
-        FILE,
-        2,
-        b"",
-        b"mfrx: --channels wants --format; mfrx --help says more\n",
-    ),
-    (
         &["--format=s16", "--channels", "2", "--channel", "3"],
         TWO,
         2,
@@ -121,237 +71,165 @@ const CASES: &[(&[&str], &[u8], u8, &[u8], &[u8])] = &[
         b"",
         b"mfrx: invalid value '9' for '--channels <K>': 9 is not in 1..=8; mfrx --help says more\n",
     ),
+    (&["--tones"], FILE, 0, b"", SILENCE),
+    (&["--svg"], FILE, 0, PICTURE, SILENCE),
+    (&["--against", "none"], FILE, 0, b"", SILENCE),
+    // a file in place of the input, which is left alone
+    (&["empty.wav"], b"x", 0, b"KEYED 0 REFUSED 0\n", SILENCE),
+    (&["-"], FILE, 0, b"KEYED 0 REFUSED 0\n", SILENCE),
+    (&["--version"], FILE, 0, b"mfrx 0.5\n", b""),
+];
+
+// Sounds and pages that are refused.
+const FAULTS: &[Fault] = &[
+    (
+        &["--channel", "2"],
+        FILE,
+        b"mfrx: the sound is no WAV file that can be heard: the chunk \"fmt \" has 1 channels, and --channel names another one\n",
+    ),
     (
         &[],
         b"KEYED 0 REFUSED 0\n",
-        1,
-        b"",
         b"mfrx: the sound is no WAV file that can be heard: its first 12 bytes are not those of a WAV file\n",
+    ),
+    (&["--svg"], CUT, CUT_OFF),
+    (&["--html"], CUT, CUT_OFF),
+    (
+        &["--against", "damaged"],
+        FILE,
+        b"mfrx: the page that was keyed: text line 1 has wrong totals\n",
+    ),
+    (&["--against", "page"], CUT, CUT_OFF),
+    (&["none.wav"], FILE, b"mfrx: none.wav: entity not found\n"),
+    (
+        &["--against", "none.page"],
+        FILE,
+        b"mfrx: the page could not be read: none.page: entity not found\n",
+    ),
+];
+
+// Words that are refused.
+const REFUSED: &[Refusal] = &[
+    (
+        &["--channel", "0"],
+        b"mfrx: invalid value '0' for '--channel <N>': 0 is not in 1..=8; mfrx --help says more\n",
+    ),
+    (
+        &["--channel", "9"],
+        b"mfrx: invalid value '9' for '--channel <N>': 9 is not in 1..=8; mfrx --help says more\n",
+    ),
+    (
+        &["--channels", "1"],
+        b"mfrx: --channels wants --format; mfrx --help says more\n",
     ),
     (
         &["--line", "10000"],
-        FILE,
-        2,
-        b"",
         b"mfrx: invalid value '10000' for '--line <N>': 10000 is not in 0..=9999; mfrx --help says more\n",
     ),
     (
         &["--trunk", "10000"],
-        FILE,
-        2,
-        b"",
         b"mfrx: invalid value '10000' for '--trunk <T>': 10000 is not in 0..=9999; mfrx --help says more\n",
     ),
     (
         &["--format", "s16", "--rate", "11025"],
-        FILE,
-        2,
-        b"",
         b"mfrx: invalid value '11025' for '--rate': a rate is 8000, or 2, 3, 4, 6, 8, 12 or 24 times as many; mfrx --help says more\n",
     ),
     (
         &["--format", "s8"],
-        FILE,
-        2,
-        b"",
         b"mfrx: invalid value 's8' for '--format <FORM>' [possible values: s16, ulaw]; mfrx --help says more\n",
     ),
     (
         &["--rate", "8000"],
-        FILE,
-        2,
-        b"",
         b"mfrx: --rate wants --format; mfrx --help says more\n",
     ),
-    (&["--tones"], FILE, 0, b"", SILENCE),
-    (&["--svg"], FILE, 0, PICTURE, SILENCE),
-    (&["--svg"], CUT, 1, b"", CUT_OFF),
-    (&["--html"], CUT, 1, b"", CUT_OFF),
     (
         &["--html", "--svg"],
-        FILE,
-        2,
-        b"",
         b"mfrx: --svg and --html do not go together; mfrx --help says more\n",
     ),
     (
         &["--html", "--tones"],
-        FILE,
-        2,
-        b"",
         b"mfrx: --html and --tones do not go together; mfrx --help says more\n",
     ),
     (
         &["--svg", "--json"],
-        FILE,
-        2,
-        b"",
         b"mfrx: --svg and --json do not go together; mfrx --help says more\n",
     ),
     (
         &["--html", "--line", "7"],
-        FILE,
-        2,
-        b"",
         b"mfrx: --line and --html do not go together; mfrx --help says more\n",
     ),
     (
         &["--svg", "--trunk", "7"],
-        FILE,
-        2,
-        b"",
         b"mfrx: --trunk and --svg do not go together; mfrx --help says more\n",
     ),
     (
         &["--html", "--against", "none"],
-        FILE,
-        2,
-        b"",
         b"mfrx: --against and --html do not go together; mfrx --help says more\n",
     ),
     (
         &["--svg", "--since", "2027-12-31T23:59:58Z"],
-        FILE,
-        2,
-        b"",
         b"mfrx: --since wants --json; mfrx --help says more\n",
     ),
-    (&["--against", "none"], FILE, 0, b"", SILENCE),
-    (
-        &["--against", "damaged"],
-        FILE,
-        1,
-        b"",
-        b"mfrx: the page that was keyed: text line 1 has wrong totals\n",
-    ),
-    (&["--against", "page"], CUT, 1, b"", CUT_OFF),
     (
         &["--against", "none", "--tones"],
-        FILE,
-        2,
-        b"",
         b"mfrx: --against and --tones do not go together; mfrx --help says more\n",
     ),
     (
         &["--json", "--line", "7"],
-        FILE,
-        2,
-        b"",
         b"mfrx: --line and --json do not go together; mfrx --help says more\n",
     ),
     (
         &["--since", "2027-12-31T23:59:58.75Z"],
-        FILE,
-        2,
-        b"",
         b"mfrx: --since wants --json; mfrx --help says more\n",
     ),
     (
         &["--json", "--since", "2027-12-31"],
-        FILE,
-        2,
-        b"",
         b"mfrx: invalid value '2027-12-31' for '--since': a time has an hour, a minute and an offset from UTC after its date, as 2026-11-25T20:00:00Z; mfrx --help says more\n",
     ),
     (
         &["--json", "--since", "yesterday"],
-        FILE,
-        2,
-        b"",
         b"mfrx: invalid value 'yesterday' for '--since': a time begins with its date, as 2026-11-25T20:00:00Z; mfrx --help says more\n",
     ),
     (
         &["--json", "--since", "2026-13-01T10:00Z"],
-        FILE,
-        2,
-        b"",
         b"mfrx: invalid value '2026-13-01T10:00Z' for '--since': a time has a month from 01 to 12, as 2026-11-25T20:00:00Z; mfrx --help says more\n",
     ),
     (
         &["--json", "--since", "2026-02-31T20:00Z"],
-        FILE,
-        2,
-        b"",
         b"mfrx: invalid value '2026-02-31T20:00Z' for '--since': a time has a day that its month has, as 2026-11-25T20:00:00Z; mfrx --help says more\n",
     ),
     (
         &["--json", "--since", "2026-11-25T25:00Z"],
-        FILE,
-        2,
-        b"",
         b"mfrx: invalid value '2026-11-25T25:00Z' for '--since': a time has an hour from 00 to 23, as 2026-11-25T20:00:00Z; mfrx --help says more\n",
     ),
     (
         &["--json", "--since", "2026-11-25T20:60Z"],
-        FILE,
-        2,
-        b"",
         b"mfrx: invalid value '2026-11-25T20:60Z' for '--since': a time has a minute from 00 to 59, as 2026-11-25T20:00:00Z; mfrx --help says more\n",
     ),
     (
         &["--json", "--since", "2026-11-25T20:00:61Z"],
-        FILE,
-        2,
-        b"",
         b"mfrx: invalid value '2026-11-25T20:00:61Z' for '--since': a time has a second from 00 to 59, and one to nine digits after its point; mfrx --help says more\n",
     ),
     (
         &["--json", "--since", "2026-11-25T20:00"],
-        FILE,
-        2,
-        b"",
         b"mfrx: invalid value '2026-11-25T20:00' for '--since': a time has an hour, a minute and an offset from UTC after its date, as 2026-11-25T20:00:00Z; mfrx --help says more\n",
     ),
     (
         &["--json", "--since", "9999-12-31T23:59:59Z"],
-        FILE,
-        2,
-        b"",
         b"mfrx: invalid value '9999-12-31T23:59:59Z' for '--since': a time is from -009999-01-02T01:59:59Z to 9999-12-30T22:00:00.999999999Z; mfrx --help says more\n",
-    ),
-    // a file in place of the input, which is left alone
-    (&["empty.wav"], b"x", 0, b"KEYED 0 REFUSED 0\n", SILENCE),
-    (&["-"], FILE, 0, b"KEYED 0 REFUSED 0\n", SILENCE),
-    (
-        &["none.wav"],
-        FILE,
-        1,
-        b"",
-        b"mfrx: none.wav: entity not found\n",
-    ),
-    (
-        &["--against", "none.page"],
-        FILE,
-        1,
-        b"",
-        b"mfrx: the page could not be read: none.page: entity not found\n",
     ),
     (
         &["empty.wav", "page"],
-        FILE,
-        2,
-        b"",
         b"mfrx: there is one word too many, 'page'; mfrx --help says more\n",
     ),
-    (&["--version"], FILE, 0, b"mfrx 0.5\n", b""),
 ];
 
 #[test]
-fn gives_each_fault(rt: HostRuntime) -> Result<(), Fail> {
-    for (words, sound, status, page, line) in CASES {
-        let wanted = Gives {
-            status: *status,
-            written: page,
-            line,
-        };
-        check_status(rt.alloc(), &Mfrx, words, sound, wanted)?;
-    }
-    Ok(())
-}
-
-#[test]
-fn fails_where_the_sound_fails(rt: HostRuntime) -> Result<(), Fail> {
+fn gives_each_status(rt: HostRuntime) -> Result<(), Fail> {
+    check_cases(rt.alloc(), &Mfrx, CASES)?;
+    check_faults(rt.alloc(), &Mfrx, FAULTS)?;
+    check_refusals(rt.alloc(), &Mfrx, FILE, REFUSED)?;
     let places = [0, 11, 30, 40, FILE.len() - 1];
     let line = b"mfrx: the sound could not be read\n";
-    check_reads(rt.alloc(), &Mfrx, FILE, &places, line)
+    check_reads(rt.alloc(), &Mfrx, &[], FILE, &places, line)
 }

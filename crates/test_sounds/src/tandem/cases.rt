@@ -128,11 +128,7 @@ pub(crate) fn text_of(alloc: Global, pieces: &[Piece]) -> Result<String, AllocEr
 fn takes_keys_as_reckoned(rt: HostRuntime) -> Result<(), Fail> {
     for (pieces, page) in CASES {
         let text = text_of(rt.alloc(), pieces)?;
-        let wanted = Gives {
-            status: 0,
-            written: page,
-            line: b"",
-        };
+        let wanted = Gives::page(page);
         check_status(rt.alloc(), &Mftandem, &["none"], text.as_bytes(), wanted)?;
     }
     Ok(())

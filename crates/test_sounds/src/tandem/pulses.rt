@@ -2,16 +2,7 @@
 use crate::tandem::cases::{Piece, text_of};
 use crate::tandem::statuses::Mftandem;
 use std::test::Fail;
-use test_kit::{Gives, check_status, check_writes};
-
-// The words after the program's name, the keys, the status, and what stands on standard output and on standard error.
-type Case = (
-    &'static [&'static str],
-    &'static [u8],
-    u8,
-    &'static [u8],
-    &'static [u8],
-);
+use test_kit::{Case, Gives, check_cases, check_status, check_writes};
 
 // KP 2 3 4 1 2 ST, KP 0 ST, KP 2 3 4 3 ST, KP 9 ST: by table `pulsed` the first and the third go out by dial pulses.
 const KEYS: &[u8] = b"{\"at_ms\":0,\"key\":\"KP\",\"length_ms\":68}\n\
@@ -105,33 +96,15 @@ const CASES: &[Case] = &[
     ),
 ];
 
-#[test]
-fn sends_dial_pulses(rt: HostRuntime) -> Result<(), Fail> {
-    for (words, keys, status, written, line) in CASES {
-        let wanted = Gives {
-            status: *status,
-            written,
-            line,
-        };
-        check_status(rt.alloc(), &Mftandem, words, keys, wanted)?;
-    }
-    Ok(())
-}
-
 // Room for the header, for the first call, and for all.
 const ROOMS: &[usize] = &[0, 1, 13, 14, 15, 60, ROWS.len() - 1];
 
 #[test]
-fn writes_the_beginning_where_the_rows_fail(rt: HostRuntime) -> Result<(), Fail> {
+fn sends_dial_pulses(rt: HostRuntime) -> Result<(), Fail> {
+    check_cases(rt.alloc(), &Mftandem, CASES)?;
+    let words = &["pulsed", "--rows", "--line", "7"];
     let line = b"mftandem: the entries could not be written\n";
-    check_writes(
-        rt.alloc(),
-        &Mftandem,
-        &["pulsed", "--rows", "--line", "7"],
-        KEYS,
-        ROOMS,
-        line,
-    )
+    check_writes(rt.alloc(), &Mftandem, words, KEYS, ROOMS, line)
 }
 
 // By table `deleting`: 2 by dial pulses; no digits, which are refused; no digits in MF; and 1 by dial pulses.

@@ -2,8 +2,12 @@
 use crate::tandem::tables::FOLDER;
 use std::alloc::Global;
 use std::test::Fail;
-use test_kit::{Gives, Halting, Program, Short, called, check_status};
-use xb_tandem::{PROGRAM, attend};
+use test_kit::{
+    Case, Fault, Page, Program, Refusal, Streams, called, check_cases, check_faults, check_pages,
+    check_refusals,
+};
+use xb_command::attend;
+use xb_tandem::{Asked, PROGRAM};
 
 /// The program `mftandem`.
 #[derive(Clone, Copy)]
@@ -14,27 +18,11 @@ impl Program for Mftandem {
         "mftandem"
     }
 
-    fn attend(
-        &self,
-        alloc: Global,
-        words: &[String],
-        reader: &mut Halting<'_>,
-        out: &mut Short,
-        err: &mut Vec<u8>,
-    ) -> u8 {
-        attend(alloc, &called(&PROGRAM, words), &FOLDER, reader, out, err)
+    fn attend(&self, alloc: Global, words: &[String], streams: Streams<'_, '_>) -> u8 {
+        let Streams { reader, out, err } = streams;
+        attend::<Asked<'_>, _, _, _, _>(alloc, &called(&PROGRAM, words), &FOLDER, reader, out, err)
     }
 }
-
-// The words after the program's name, the keys on standard input, the status, and what stands on standard output and on
-// standard error.
-type Case = (
-    &'static [&'static str],
-    &'static [u8],
-    u8,
-    &'static [u8],
-    &'static [u8],
-);
 
 // Of a table and keys that would both be standard input.
 const BOTH: &[u8] =
@@ -61,189 +49,143 @@ const KEYS: &[u8] = b"{\"at_ms\":0,\"key\":\"KP\",\"length_ms\":68}\r\n\
 const OPEN: &[u8] =
     b"{\"at_ms\":0,\"key\":\"KP\",\"length_ms\":68}\n{\"at_ms\":3068,\"key\":\"0\",\"length_ms\":68}\n";
 
-const CASES: &[Case] = &[
+// Pages of keys.
+const PAGES: &[Page] = &[
     (
         &["seven", "--line", "9999"],
         KEYS,
-        0,
         b"9999 1 KEYED 0017 KP:1100+1700 5:900+1300 6:1100+1300 5:900+1300 ST:1500+1700\n\
 9999 2 KEYED 0040 KP:1100+1700 ST:1500+1700\n9999 3 REFUSED UNKNOWN 1\nKEYED 2 REFUSED 1\n",
-        b"",
     ),
     (
         &["--json", "seven"],
         KEYS,
-        0,
         b"{\"entry\":1,\"keys\":[\"KP\",\"5\",\"6\",\"5\",\"ST\"],\"line\":0,\"outcome\":\"KEYED\",\"sent\":\"565\",\
 \"trunk\":17}\n\
 {\"entry\":2,\"keys\":[\"KP\",\"ST\"],\"line\":0,\"outcome\":\"KEYED\",\"sent\":\"\",\"trunk\":40}\n\
 {\"entry\":3,\"heard\":1,\"line\":0,\"outcome\":\"REFUSED\",\"reason\":\"UNKNOWN\"}\n\
 {\"keyed\":2,\"refused\":1}\n",
-        b"",
     ),
     // the time-out that is asked for: the KP ends at 68
     (
         &["seven", "--timeout", "3000"],
         OPEN,
-        0,
         b"0000 1 REFUSED TIMEDOUT 0\nKEYED 0 REFUSED 1\n",
-        b"",
     ),
     (
         &["seven", "--timeout", "3001"],
         OPEN,
-        0,
         b"0000 1 REFUSED ABANDONED 1\nKEYED 0 REFUSED 1\n",
-        b"",
     ),
-    (&["seven"], b"", 0, b"KEYED 0 REFUSED 0\n", b""),
-    // lines that are wrong: what was certain before stands
+    (&["seven"], b"", b"KEYED 0 REFUSED 0\n"),
+    // standard input by its name: the table, or the keys
     (
-        &["seven"],
-        b"{\"at_ms\":0,\"key\":\"KP\",\"length_ms\":68}\n{\"at_ms\":136,\"key\":\"0\",\"length_ms\":68}\n\
-{\"at_ms\":272,\"key\":\"ST\",\"length_ms\":68}\n{\"at_ms\":408,\"key\":\"KP\",\"length_ms\":68}\n\n",
-        1,
-        b"0000 1 KEYED 0001 KP:1100+1700 0:1300+1500 ST:1500+1700\n",
-        b"mftandem: text line 5 is no JSON object\n",
+        &["-", "zero.keys"],
+        b"x",
+        b"0000 1 KEYED 0001 KP:1100+1700 0:1300+1500 ST:1500+1700\nKEYED 1 REFUSED 0\n",
     ),
+    (&["seven", "-"], b"", b"KEYED 0 REFUSED 0\n"),
+];
+
+// A line that is wrong: what was certain before stands.
+const CASES: &[Case] = &[(
+    &["seven"],
+    b"{\"at_ms\":0,\"key\":\"KP\",\"length_ms\":68}\n{\"at_ms\":136,\"key\":\"0\",\"length_ms\":68}\n\
+{\"at_ms\":272,\"key\":\"ST\",\"length_ms\":68}\n{\"at_ms\":408,\"key\":\"KP\",\"length_ms\":68}\n\n",
+    1,
+    b"0000 1 KEYED 0001 KP:1100+1700 0:1300+1500 ST:1500+1700\n",
+    b"mftandem: text line 5 is no JSON object\n",
+)];
+
+// Tables and keys that are refused.
+const FAULTS: &[Fault] = &[
     (
         &["seven"],
         b"[]\n",
-        1,
-        b"",
         b"mftandem: text line 1 is no JSON object\n",
     ),
     (
         &["seven"],
         b"{}\n{\"key\":\"KP\",\"at_ms\":0,\"length_ms\":68\xff}\n",
-        1,
-        b"",
         b"mftandem: text line 2 is no JSON object\n",
     ),
     (
         &["seven"],
         b"{\"at_ms\":0,\"key\":\"kp\",\"length_ms\":68}\n",
-        1,
-        b"",
         b"mftandem: text line 1 has a key of no such name\n",
     ),
     (
         &["seven"],
         b"{\"at_ms\":0,\"key\":2,\"length_ms\":68}\n",
-        1,
-        b"",
         b"mftandem: text line 1 has a key of no such name\n",
     ),
     (
         &["seven"],
         b"{\"at_ms\":0.5,\"key\":\"2\",\"length_ms\":68}\n",
-        1,
-        b"",
         b"mftandem: text line 1 has a key without its times, at_ms and length_ms\n",
     ),
     (
         &["seven"],
         b"{\"at_ms\":0,\"key\":\"2\"}\n",
-        1,
-        b"",
         b"mftandem: text line 1 has a key without its times, at_ms and length_ms\n",
     ),
     // faults of the table, which comes first
-    (
-        &["no toml"],
-        b"x",
-        1,
-        b"",
-        b"mftandem: route table: not TOML\n",
-    ),
+    (&["no toml"], b"x", b"mftandem: route table: not TOML\n"),
     (
         &["no trunk"],
         b"",
-        1,
-        b"",
         b"mftandem: route table: route 1 has a wrong shape\n",
     ),
-    // standard input by its name: the table, or the keys
-    (
-        &["-", "zero.keys"],
-        b"x",
-        0,
-        b"0000 1 KEYED 0001 KP:1100+1700 0:1300+1500 ST:1500+1700\nKEYED 1 REFUSED 0\n",
-        b"",
-    ),
-    (&["seven", "-"], b"", 0, b"KEYED 0 REFUSED 0\n", b""),
-    (&["-"], b"", 2, b"", BOTH),
-    (&["-", "-"], b"", 2, b"", BOTH),
     // files that are none, the keys first
     (
         &["no file", "no keys"],
-        b"",
-        1,
         b"",
         b"mftandem: no keys: entity not found\n",
     ),
     (
         &["no file", "zero.keys"],
         b"",
-        1,
-        b"",
         b"mftandem: the route table could not be read: no file: entity not found\n",
     ),
     (
         &["a sound"],
-        b"",
-        1,
         b"",
         b"mftandem: the route table could not be read: a sound: it is a sound, which mfrx and mfloop take\n",
     ),
     (
         &["seven", "a sound"],
         b"",
-        1,
-        b"",
         b"mftandem: text line 1 is no JSON object\n",
     ),
-    // refused words
+];
+
+// Words that are refused.
+const REFUSED: &[Refusal] = &[
+    (&["-"], BOTH),
+    (&["-", "-"], BOTH),
     (
         &[],
-        b"",
-        2,
-        b"",
         b"mftandem: the following required arguments were not provided: <TABLE>; mftandem --help says more\n",
     ),
     (
         &["seven", "--line", "10000"],
-        b"",
-        2,
-        b"",
         b"mftandem: invalid value '10000' for '--line <N>': 10000 is not in 0..=9999; mftandem --help says more\n",
     ),
     (
         &["seven", "--timeout=-1"],
-        b"",
-        2,
-        b"",
         b"mftandem: invalid value '-1' for '--timeout <MS>': a whole number is wanted, from 0; mftandem --help says \
 more\n",
     ),
     (
         &["seven", "keys", "more"],
-        b"",
-        2,
-        b"",
         b"mftandem: there is one word too many, 'more'; mftandem --help says more\n",
     ),
 ];
 
 #[test]
 fn gives_each_status(rt: HostRuntime) -> Result<(), Fail> {
-    for (words, keys, status, page, line) in CASES {
-        let wanted = Gives {
-            status: *status,
-            written: page,
-            line,
-        };
-        check_status(rt.alloc(), &Mftandem, words, keys, wanted)?;
-    }
-    Ok(())
+    check_pages(rt.alloc(), &Mftandem, PAGES)?;
+    check_cases(rt.alloc(), &Mftandem, CASES)?;
+    check_faults(rt.alloc(), &Mftandem, FAULTS)?;
+    check_refusals(rt.alloc(), &Mftandem, b"", REFUSED)
 }

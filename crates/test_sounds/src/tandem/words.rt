@@ -1,12 +1,13 @@
 // The words of each fault that is not among the statuses, as the table of faults has them.
 use std::io::{self, ErrorKind};
 use std::test::Fail;
+use test_kit::check_texts;
 use xb_command::OpenFault;
 use xb_tandem::{LineFault, TandemFault};
 
 #[test]
 fn words_of_faults(rt: HostRuntime) -> Result<(), Fail> {
-    let faults = [
+    let faults = &[
         (
             TandemFault::TooMany,
             "more than 9223372036854775808 text lines",
@@ -17,10 +18,7 @@ fn words_of_faults(rt: HostRuntime) -> Result<(), Fail> {
             "text line 2 out of memory",
         ),
     ];
-    for (fault, words) in faults {
-        let written = format!(in rt.alloc(); "{fault}")?;
-        assert_eq!(rt; written.as_str(), words);
-    }
+    check_texts(rt.alloc(), faults)?;
     let error = io::Error::from(ErrorKind::NotFound);
     let file = TandemFault::File(OpenFault::System("b.toml", error));
     let written = format!(in rt.alloc(); "{file}")?;

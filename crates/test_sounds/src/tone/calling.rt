@@ -3,8 +3,8 @@ use crate::tone::sounds::PAGE;
 use std::alloc::Global;
 use std::io::{Read, Write};
 use test_kit::Folder;
-use xb_command::Call;
-use xb_tone::{PROGRAM, attend};
+use xb_command::{Call, attend};
+use xb_tone::{Asked, PROGRAM};
 
 // The files that there are.
 const FOLDER: Folder = Folder(&[("day.page", PAGE), ("call.wav", b"RIFF\x24\0\0\0WAVEfmt ")]);
@@ -23,5 +23,5 @@ pub(crate) fn sounded<R: Read, W: Write, E: Write>(
         is_typed: false,
         is_shown: false,
     };
-    attend(alloc, &call, &FOLDER, reader, out, err)
+    attend::<Asked<'_>, _, _, _, _>(alloc, &call, &FOLDER, reader, out, err)
 }

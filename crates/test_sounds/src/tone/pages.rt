@@ -30,21 +30,6 @@ KEYED 2 REFUSED 2\n",
     ),
 ];
 
-#[test]
-fn reads_pages(rt: HostRuntime) -> Result<(), Fail> {
-    for (page, want) in PAGES {
-        let entries = page_entries(rt.alloc(), page)?;
-        assert_eq!(rt; entries.len(), want.len());
-        for (entry, (line, number, refusal, marks)) in entries.iter().zip(want.iter()) {
-            assert_eq!(rt; entry.line().get(), *line);
-            assert_eq!(rt; entry.number(), *number);
-            assert_eq!(rt; entry.refusal(), *refusal);
-            assert_eq!(rt; entry.marks().len(), *marks);
-        }
-    }
-    Ok(())
-}
-
 // Texts that are no pages, and their first faults.
 const FAULTS: &[(&[u8], PageFault)] = &[
     (b"", PageFault::NoTotals(1)),
@@ -98,12 +83,23 @@ const FAULTS: &[(&[u8], PageFault)] = &[
 ];
 
 #[test]
-fn names_each_damage(rt: HostRuntime) {
+fn reads_pages_and_names_each_damage(rt: HostRuntime) -> Result<(), Fail> {
+    for (page, want) in PAGES {
+        let entries = page_entries(rt.alloc(), page)?;
+        assert_eq!(rt; entries.len(), want.len());
+        for (entry, (line, number, refusal, marks)) in entries.iter().zip(want.iter()) {
+            assert_eq!(rt; entry.line().get(), *line);
+            assert_eq!(rt; entry.number(), *number);
+            assert_eq!(rt; entry.refusal(), *refusal);
+            assert_eq!(rt; entry.marks().len(), *marks);
+        }
+    }
     for (page, fault) in FAULTS {
         let text = &page[..page.len().min(MOST_PAGE_BYTES)];
         let got = page_entries(rt.alloc(), text).err();
         assert_eq!(rt; got, Some(*fault), "{}", page.escape_ascii());
     }
+    Ok(())
 }
 
 #[test]

@@ -1,7 +1,7 @@
 // Sounds, byte for byte as another program computed them from sines of its own.
-use crate::tone::calling::sounded;
+use crate::tone::statuses::Mftone;
 use std::test::Fail;
-use test_kit::words_of;
+use test_kit::attended;
 
 pub const PAGE: &[u8] = b"0007 1 REFUSED UNKNOWN 3\n\
 0007 2 KEYED 0017 KP:1100+1700 0:1300+1500 ST:1500+1700\n\
@@ -182,15 +182,11 @@ fn adler(bytes: &[u8]) -> u64 {
 #[test]
 fn sounds_as_computed(rt: HostRuntime) -> Result<(), Fail> {
     for (words, page, length, sum) in SOUNDS {
-        let line = words_of(rt.alloc(), "mftone", words)?;
-        let mut reader = *page;
-        let mut out = Vec::new(rt.alloc());
-        let mut err = Vec::new(rt.alloc());
-        let got = sounded(rt.alloc(), &line, &mut reader, &mut out, &mut err);
-        assert_eq!(rt; got, 0, "{words:?}");
-        assert!(rt; err.is_empty(), "{words:?}");
-        assert_eq!(rt; out.len(), *length, "{words:?}");
-        assert_eq!(rt; adler(&out), *sum, "{words:?}");
+        let gave = attended(rt.alloc(), &Mftone, words, page)?;
+        assert_eq!(rt; gave.status, 0, "{words:?}");
+        assert!(rt; gave.line.is_empty(), "{words:?}");
+        assert_eq!(rt; gave.written.len(), *length, "{words:?}");
+        assert_eq!(rt; adler(&gave.written), *sum, "{words:?}");
     }
     Ok(())
 }

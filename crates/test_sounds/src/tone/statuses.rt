@@ -3,172 +3,140 @@ use crate::tone::calling::sounded;
 use crate::tone::sounds::PAGE;
 use std::alloc::Global;
 use std::test::Fail;
-use test_kit::{Gives, Halting, Program, Short, check_reads, check_status, check_writes};
+use test_kit::{
+    Fault, Program, Refusal, Streams, check_faults, check_reads, check_refusals, check_writes,
+};
 
-// The program `mftone`.
+/// The program `mftone`.
 #[derive(Clone, Copy)]
-struct Mftone;
+pub(crate) struct Mftone;
 
 impl Program for Mftone {
     fn name(&self) -> &'static str {
         "mftone"
     }
 
-    fn attend(
-        &self,
-        alloc: Global,
-        words: &[String],
-        reader: &mut Halting<'_>,
-        out: &mut Short,
-        err: &mut Vec<u8>,
-    ) -> u8 {
+    fn attend(&self, alloc: Global, words: &[String], streams: Streams<'_, '_>) -> u8 {
+        let Streams { reader, out, err } = streams;
         sounded(alloc, words, reader, out, err)
     }
 }
 
-// The words after the program's name, the page, the status, and what stands on standard error; nothing is
-// written.
-const CASES: &[(&[&str], &[u8], u8, &[u8])] = &[
+// Pages that are refused, and words that choose none of their calls.
+const FAULTS: &[Fault] = &[
     (
         &["--line", "7", "--entry", "1"],
         PAGE,
-        1,
         b"mftone: none of the calls asked for is keyed\n",
     ),
     (
         &["--line", "7", "--entry", "3"],
         PAGE,
-        1,
         b"mftone: the page has no such entry\n",
     ),
     (
         &["--line", "8"],
         PAGE,
-        1,
         b"mftone: the page has no such entry\n",
     ),
     (
         &[],
         b"KEYED 0 REFUSED 0\n",
-        1,
         b"mftone: the page has no such entry\n",
     ),
     (
         &[],
         b"0007 1 REFUSED UNKNOWN 3\nKEYED 0 REFUSED 1\n",
-        1,
         b"mftone: none of the calls asked for is keyed\n",
     ),
     (
         &[],
         b"0007 1 REFUSED UNKNOWN 3\r\nKEYED 0 REFUSED 1\r\n",
-        1,
         b"mftone: none of the calls asked for is keyed\n",
     ),
     (
         &[],
         b"0007 1 REFUSED UNKNOWN 3\nKEYED 0 REFUSED 1\r\r\n",
-        1,
         b"mftone: text line 2 has wrong totals\n",
     ),
     (
         &[],
         b"0007 1 REFUSED UNKNOWN 3\nKEYED 0 REFUSED 0\n",
-        1,
         b"mftone: text line 2 has wrong totals\n",
     ),
     // a cadence is told before the page is read
     (
         &["--lead", "60001"],
         b"x",
-        1,
         b"mftone: cadence: the silence before KP is too long\n",
     ),
     (
         &["--kp", "0"],
         b"x",
-        1,
         b"mftone: cadence: the tone of KP has 0 ms or is too long\n",
     ),
     (
         &["--key", "0"],
         b"x",
-        1,
         b"mftone: cadence: the tone of a digit has 0 ms or is too long\n",
     ),
     (
         &["--gap", "70000"],
         b"x",
-        1,
         b"mftone: cadence: the silence after a tone is too long\n",
     ),
     // a file in place of the input, which is left alone
     (
         &["day.page", "--line", "8"],
         b"x",
-        1,
         b"mftone: the page has no such entry\n",
     ),
     (
         &["-", "--line", "8"],
         PAGE,
-        1,
         b"mftone: the page has no such entry\n",
     ),
     (
         &["none.page"],
         PAGE,
-        1,
         b"mftone: none.page: entity not found\n",
     ),
     (
         &["call.wav"],
         PAGE,
-        1,
         b"mftone: call.wav: it is a sound, which mfrx and mfloop take\n",
     ),
     // no page is read for words of keys
-    (
-        &["--keys", "  "],
-        PAGE,
-        1,
-        b"mftone: keys: there is no word\n",
-    ),
+    (&["--keys", "  "], PAGE, b"mftone: keys: there is no word\n"),
     (
         &["--keys", "KP 5x ST"],
         PAGE,
-        1,
         b"mftone: keys: word 2, at byte 4, is no key and no sound\n",
     ),
     (
         &["--keys", " 12  4000:10"],
         PAGE,
-        1,
         b"mftone: keys: word 2, at byte 6, is no key and no sound\n",
     ),
     (
         &["--keys", "silence:9 300+301+302+303:10"],
         PAGE,
-        1,
         b"mftone: keys: word 2, at byte 11, is too loud for 16 bits\n",
     ),
     (
         &["--keys", "KP 2", "--noise-peak", "12768"],
         PAGE,
-        1,
         b"mftone: keys: word 2, at byte 4, is too loud for 16 bits\n",
     ),
     (
         &["--keys", "silence:9 KP", "--hum=-9"],
         PAGE,
-        1,
         b"mftone: keys: word 2, at byte 11, is too loud for 16 bits\n",
     ),
 ];
 
-// The words after the program's name, entries that lie in time, and what stands on standard error with status 1;
-// nothing is written.
-const ENTRIES: &[(&[&str], &[u8], &[u8])] = &[
+// Entries that lie in time, and are refused.
+const ENTRIES: &[Fault] = &[
     // the text was cut: before its first line, after a line, and in the LF of one
     (
         &["--timed"],
@@ -317,8 +285,8 @@ const ENTRIES: &[(&[&str], &[u8], &[u8])] = &[
     ),
 ];
 
-// Words after the program's name that are refused, and why; the page is not read.
-const REFUSED: &[(&[&str], &[u8])] = &[
+// Words that are refused, and why; the page is not read.
+const REFUSED: &[Refusal] = &[
     // a level of each tone is from -40.0 to 0, and a page has none
     (
         &["--keys", "KP", "--level=0.1"],
@@ -441,53 +409,17 @@ const REFUSED: &[(&[&str], &[u8])] = &[
 ];
 
 #[test]
-fn gives_each_fault(rt: HostRuntime) -> Result<(), Fail> {
-    for (words, page, status, line) in CASES {
-        let wanted = Gives {
-            status: *status,
-            written: b"",
-            line,
-        };
-        check_status(rt.alloc(), &Mftone, words, page, wanted)?;
-    }
-    Ok(())
+fn refuses_what_is_wrong(rt: HostRuntime) -> Result<(), Fail> {
+    check_faults(rt.alloc(), &Mftone, FAULTS)?;
+    check_faults(rt.alloc(), &Mftone, ENTRIES)?;
+    check_refusals(rt.alloc(), &Mftone, PAGE, REFUSED)
 }
 
 #[test]
-fn refuses_words(rt: HostRuntime) -> Result<(), Fail> {
-    for (words, line) in REFUSED {
-        let wanted = Gives {
-            status: 2,
-            written: b"",
-            line,
-        };
-        check_status(rt.alloc(), &Mftone, words, PAGE, wanted)?;
-    }
-    Ok(())
-}
-
-#[test]
-fn fails_where_the_entries_fail(rt: HostRuntime) -> Result<(), Fail> {
-    for (words, entries, line) in ENTRIES {
-        let wanted = Gives {
-            status: 1,
-            written: b"",
-            line,
-        };
-        check_status(rt.alloc(), &Mftone, words, entries, wanted)?;
-    }
-    Ok(())
-}
-
-#[test]
-fn fails_where_the_page_fails(rt: HostRuntime) -> Result<(), Fail> {
+fn fails_where_a_stream_fails(rt: HostRuntime) -> Result<(), Fail> {
     let places = [0, 1, 99, PAGE.len()];
     let line = b"mftone: the page could not be read\n";
-    check_reads(rt.alloc(), &Mftone, PAGE, &places, line)
-}
-
-#[test]
-fn writes_the_beginning_where_the_sound_fails(rt: HostRuntime) -> Result<(), Fail> {
+    check_reads(rt.alloc(), &Mftone, &[], PAGE, &places, line)?;
     let rooms = [0, 1, 44, 45, 8_044, 12_907];
     let line = b"mftone: the sound could not be written\n";
     check_writes(rt.alloc(), &Mftone, &["--line", "42"], PAGE, &rooms, line)

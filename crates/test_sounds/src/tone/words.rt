@@ -1,5 +1,6 @@
 // The words of each fault, as the table of faults has them.
 use std::test::Fail;
+use test_kit::check_texts;
 use xb_page::PageFault;
 use xb_signal::{KeysFault, Place};
 use xb_sound::CadenceFault;
@@ -143,9 +144,5 @@ const WORDS: &[(ToneFault, &str)] = &[
 
 #[test]
 fn words_of_faults(rt: HostRuntime) -> Result<(), Fail> {
-    for (fault, words) in WORDS {
-        let written = format!(in rt.alloc(); "{fault}")?;
-        assert_eq!(rt; written.as_str(), *words, "of {fault:?}");
-    }
-    Ok(())
+    check_texts(rt.alloc(), WORDS)
 }

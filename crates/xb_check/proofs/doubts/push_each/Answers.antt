@@ -1,11 +1,10 @@
 use Rattle.std.proofs.Common.{◌∙◌, ◌+◌, ◌<◌, List, [], sym, drop, get_or, length, map, arith}
 use Rattle.std.proofs.lemmas.List.{at_drop_more}
 use Rattle.std.specs.List.{flat_map}
-use Rattle.xb_doubts.specs.Activities.{activities_of}
-use Rattle.xb_doubts.specs.Exchanged.{which_of}
+use Rattle.xb_doubts.specs.Lines.{told_by}
 use Rattle.xb_check.specs.Doubts.{doubt_at}
-use Rattle.xb_findings.specs.declared.kept.KeptLine.{KeptLine}
-use Rattle.xb_findings.specs.declared.kept.LineKind.TheVariants.{Header}
+use Rattle.xb_findings.specs.declared.kept_lines.KeptLine.{KeptLine}
+use Rattle.xb_findings.specs.declared.kept_lines.LineKind.TheVariants.{Header}
 use Rattle.xb_findings.specs.Kept.{Kept, kept_line_of}
 use Rattle.xb_findings.specs.Tallies.{tallied, with_all}
 use Rattle.xb_check.proofs.Doubting.{told_more}
@@ -17,8 +16,7 @@ loop-line-preserved c =
     let kept = c.args.kept.now in
     let i = l.line-index in
     let before = tallied l.tally in
-    let doubts = λ (line : Kept). doubt_at c.args.whole.unit c.args.whole.is_ringing (activities_of c.args.lines.now)
-    (which_of c.args.exchanged.now) line in
+    let doubts = λ (line : Kept). doubt_at c.args.whole.unit c.args.whole.is_ringing (told_by c.args.lines.now) line in
     let told = λ (some : List KeptLine). with_all before (flat_map doubts (map kept_line_of some)) in
     let none : KeptLine = record { n = 0; text = record { ref_ptr = (0, 0); now = [] }; kind = Header } in
     let within : i < length kept = omega (arith, c.loop-line-test.true) in

@@ -8,18 +8,18 @@ use Rattle.xb_recording.specs.declared.beginning.Told.TheVariants as tolds
 use Rattle.xb_recording.specs.Beginnings.{IsTold, form_told, tells_nothing_yet, why_untold}
 use Rattle.xb_recording.proofs.ToldWithin.{why_same}
 use Rattle.xb_feed.specs.declared.beginning.TheConstants.{MOST_BEGINNING_BYTES}
-use Rattle.xb_feed.specs.declared.fault.RecordingFault.TheVariants.{NoMemory}
+use Rattle.xb_feed.specs.declared.fault.RecordingFault.TheVariants as faults
 use Rattle.xb_feed.proofs.ToldForms.{all_are, beginning_tells, few_read, has_four, more_read, not_yet, tells_form, untold_form, untold_long, untold_memory, untold_read}
 use Rattle.xb_feed.proofs.beginning.told_beginning.Goals as goal
 
 pub returns-in_err-n-clause-untold : goal.returns-in_err-n-clause-untold
 returns-in_err-n-clause-untold g c =
-    let fault : c.from_residual.result ≡ Err c.in_err-n.field-0.0 = search rules in
-    rw fault (untold_read (g.R.Read.remaining c.args.input.now) c.in_err-n.field-0.0 c.in_err-n.ensures.failed)
+    let fault : c.from_residual.result ≡ Err (faults.Read c.in_err-n.field-0.0) = search rules in
+    rw fault (untold_read (g.R.Read.remaining c.args.input.now) c.in_err-n.field-0.0)
 
 pub returns-in_err-map_err-clause-untold : goal.returns-in_err-map_err-clause-untold
 returns-in_err-map_err-clause-untold g c =
-    let fault : c.from_residual-in_err-map_err.result ≡ Err NoMemory = search rules in
+    let fault : c.from_residual-in_err-map_err.result ≡ Err faults.NoMemory = search rules in
     rw fault (untold_memory (g.R.Read.remaining c.args.input.now))
 
 pub returns-in-Form-clause-read : goal.returns-in-Form-clause-read

@@ -55,9 +55,9 @@ returns-in_err-write-clause-fault g c =
 pub take_whole-requires : goal.take_whole-requires
 take_whole-requires g c = c.in_ok-write.ensures.none_left
 
-pub returns-clause-listens : goal.returns-clause-listens
-returns-clause-listens g c =
-    (whole_told g.C.Follow.rules c.args.header.now c.args.request.now c.args.before.now c.in_ok-beginning.format c.in_ok-feed.feed
+pub returns : goal.returns
+returns g c =
+    let told = whole_told g.C.Follow.rules c.args.header.now c.args.request.now c.args.before.now c.in_ok-beginning.format c.in_ok-feed.feed
     c.in_ok-feed.ensures.starts (g.R.Read.remaining c.args.input.now)
     (form_of c.args.request.now c.in_ok-beginning.format (g.R.Read.remaining c.args.input.now)
     c.in_ok-beginning.ensures.asked c.in_ok-beginning.ensures.told)
@@ -67,18 +67,5 @@ returns-clause-listens g c =
     c.in_ok-beginning.beginning.items c.take_whole.result c.in_ok-write_whole.ensures.whole
     c.in_ok-write_whole-2.ensures.whole c.in_ok-write.ensures.wrote c.in_ok-write.ensures.reader
     c.in_ok-write.ensures.known c.in_ok-beginning.ensures.read c.deref.ensures.value c.take_whole.ensures.ends
-    c.take_whole.ensures.fault).0
-
-pub returns-clause-fault : goal.returns-clause-fault
-returns-clause-fault g c =
-    (whole_told g.C.Follow.rules c.args.header.now c.args.request.now c.args.before.now c.in_ok-beginning.format c.in_ok-feed.feed
-    c.in_ok-feed.ensures.starts (g.R.Read.remaining c.args.input.now)
-    (form_of c.args.request.now c.in_ok-beginning.format (g.R.Read.remaining c.args.input.now)
-    c.in_ok-beginning.ensures.asked c.in_ok-beginning.ensures.told)
-    (g.W.Write.contents c.args.out.now) string_bytes c.write.new.self (g.W.Write.contents c.write_whole.new.out)
-    (g.W.Write.contents c.write_whole-2.new.out) (g.W.Write.contents c.write.new.out)
-    (g.R.Read.remaining c.beginning_of.new.input) (g.W.Write.contents c.take_whole.new.out) c.deref.result.now
-    c.in_ok-beginning.beginning.items c.take_whole.result c.in_ok-write_whole.ensures.whole
-    c.in_ok-write_whole-2.ensures.whole c.in_ok-write.ensures.wrote c.in_ok-write.ensures.reader
-    c.in_ok-write.ensures.known c.in_ok-beginning.ensures.read c.deref.ensures.value c.take_whole.ensures.ends
-    c.take_whole.ensures.fault).1
+    c.take_whole.ensures.fault in
+    record { listens = told.0; fault = told.1 }

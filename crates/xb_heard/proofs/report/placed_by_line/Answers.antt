@@ -12,30 +12,22 @@ loop-index-init c =
 
 pub take_row-requires : goal.take_row-requires
 take_row-requires c =
-    let row = c.index-rows-index.result in
-    let rows = c.args.rows.now in
-    let index = c.loop-index.index in
-    let is = its (λ v. v.items) index (take index rows) row c.loop-index.lines c.loop-index.closed c.get_mut.result.now
+    let is = its (λ v. v.items) c.loop-index.index (take c.loop-index.index c.args.rows.now) c.index-rows-index.result c.loop-index.lines c.loop-index.closed c.get_mut.result.now
     c.get_mut-in-loop-index.result.now c.line-line.result c.line-line.ensures c.get_mut.ensures.lines c.get_mut-in-loop-index.ensures.lines
     c.get_mut.ensures.below c.get_mut.ensures.value c.get_mut-in-loop-index.ensures.value c.loop-index.invariant in
     omega (arith, is.within, c.loop-index-test.true, c.requires)
 
 pub loop-index-preserved : goal.loop-index-preserved
 loop-index-preserved c =
-    let row = c.index-rows-index.result in
-    let rows = c.args.rows.now in
-    let index = c.loop-index.index in
-    let more : take (index + 1) rows ≡ take index rows ++ row ∷ [] =
-    take_more rows index row c.loop-index-test.true ∙ ap (λ r. take index rows ++ r ∷ []) (sym c.index-rows-index.is) in
+    let more : take (c.loop-index.index + 1) c.args.rows.now ≡ take c.loop-index.index c.args.rows.now ++ c.index-rows-index.result ∷ [] =
+    take_more c.args.rows.now c.loop-index.index c.index-rows-index.result c.loop-index-test.true ∙ ap (λ r. take c.loop-index.index c.args.rows.now ++ r ∷ []) (sym c.index-rows-index.is) in
     rw more
-    (lists-more (λ v. v.items) index (take index rows) row c.loop-index.lines c.loop-index.closed c.get_mut.result.now
+    (lists-more (λ v. v.items) c.loop-index.index (take c.loop-index.index c.args.rows.now) c.index-rows-index.result c.loop-index.lines c.loop-index.closed c.get_mut.result.now
     c.get_mut-in-loop-index.result.now c.line-line.result c.line-line.ensures c.get_mut.ensures.lines c.get_mut-in-loop-index.ensures.lines
     c.get_mut.ensures.below c.get_mut.ensures.value c.get_mut-in-loop-index.ensures.value c.loop-index.invariant
     c.take_row.new.runs c.take_row.new.closed c.in_ok-take_row.ensures.runs c.in_ok-take_row.ensures.end)
 
 pub returns : goal.returns
 returns c = λ l none h.
-    let rows = c.args.rows.now in
-    let index = c.loop-index.index in
-    taken-end l index (take index rows) _ _ (c.loop-index.invariant l none false h)
-    ∙ ap (λ all. placed_runs l all) (take_all index rows (omega (arith, c.loop-index-test.false)))
+    taken-end l c.loop-index.index (take c.loop-index.index c.args.rows.now) _ _ (c.loop-index.invariant l none false h)
+    ∙ ap (λ all. placed_runs l all) (take_all c.loop-index.index c.args.rows.now (omega (arith, c.loop-index-test.false)))

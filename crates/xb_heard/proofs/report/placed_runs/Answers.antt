@@ -10,23 +10,19 @@ take_row-requires c = omega (arith, c.loop-index.invariant.within, c.loop-index-
 
 pub loop-index-preserved : goal.loop-index-preserved
 loop-index-preserved c =
-    let row = c.index-rows-index.result in
-    let rows = c.args.rows.now in
-    let index = c.loop-index.index in
-    let more : take (index + 1) rows ≡ take index rows ++ row ∷ [] =
-    take_more rows index row c.loop-index-test.true ∙ ap (λ r. take index rows ++ r ∷ []) (sym c.index-rows-index.is) in
+    let more : take (c.loop-index.index + 1) c.args.rows.now ≡ take c.loop-index.index c.args.rows.now ++ c.index-rows-index.result ∷ [] =
+    take_more c.args.rows.now c.loop-index.index c.index-rows-index.result c.loop-index-test.true ∙ ap (λ r. take c.loop-index.index c.args.rows.now ++ r ∷ []) (sym c.index-rows-index.is) in
     elim c.if-eq.branch [
       | then-eq+in_ok-take_row w ↦ rw (more, w.runs-is, w.closed-is)
-          (taken-here c.args.line index (take index rows) row c.loop-index.runs.items c.loop-index.closed c.loop-index.invariant
+          (taken-here c.args.line c.loop-index.index (take c.loop-index.index c.args.rows.now) c.index-rows-index.result c.loop-index.runs.items c.loop-index.closed c.loop-index.invariant
           w.take_row.new.runs.items w.take_row.new.closed (sym c.line.ensures ∙ eqb-true _ _ (sym w.if-eq.ensures))
           w.in_ok-take_row.ensures.runs w.in_ok-take_row.ensures.end)
       | else-eq w ↦ rw (more, w.runs-is, w.closed-is)
-          (taken-other c.args.line index (take index rows) row c.loop-index.runs.items c.loop-index.closed c.loop-index.invariant
+          (taken-other c.args.line c.loop-index.index (take c.loop-index.index c.args.rows.now) c.index-rows-index.result c.loop-index.runs.items c.loop-index.closed c.loop-index.invariant
           (ap (λ k. k == c.args.line) (sym c.line.ensures) ∙ sym w.if-eq.ensures))
     ]
 
 pub returns : goal.returns
 returns c =
-    let rows = c.args.rows.now in
-    taken-end c.args.line c.loop-index.index (take c.loop-index.index rows) c.loop-index.runs.items c.loop-index.closed c.loop-index.invariant
-    ∙ ap (λ all. placed_runs c.args.line all) (take_all c.loop-index.index rows (omega (arith, c.loop-index-test.false)))
+    taken-end c.args.line c.loop-index.index (take c.loop-index.index c.args.rows.now) c.loop-index.runs.items c.loop-index.closed c.loop-index.invariant
+    ∙ ap (λ all. placed_runs c.args.line all) (take_all c.loop-index.index c.args.rows.now (omega (arith, c.loop-index-test.false)))

@@ -3,7 +3,7 @@ use Rattle.std.specs.List.{flat_map}
 use Rattle.std.proofs.lemmas.List.Folds.{flat_map-map}
 use Rattle.xb_clock.specs.Clocks.{text_in}
 use Rattle.xb_live.specs.EventObjects.{line_at, object_by}
-use Rattle.xb_live.specs.declared.printing.EntryForm.TheVariants.{Events}
+use Rattle.xb_live.specs.declared.entry_text.EntryForm.TheVariants.{Events}
 use Rattle.xb_live.specs.Events.{event_with}
 use Rattle.xb_live.specs.Texts.{event_text}
 use Rattle.xb_live.proofs.EventTexts.{no-text, some-events}

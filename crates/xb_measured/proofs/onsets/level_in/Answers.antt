@@ -1,7 +1,7 @@
 use Rattle.std.proofs.Common.{◌≡◌, ◌∙◌, ℕ, ◌+◌, ◌^◌, ◌≤◌, ap, ap₂, arith, ℤ, unsigned_abs, to_z, of_z}
 use Rattle.std.specs.Int.{w64}
 use Rattle.std.proofs.lemmas.Int.{to_z-of_z, fits_signed_from_abs}
-use Rattle.xb_measured.specs.declared.waves.Sums.{Sums}
+use Rattle.xb_measured.specs.declared.wave_sums.Sums.{Sums}
 use Rattle.xb_measured.proofs.onsets.level_in.Goals as goal
 
 as_is : (z : ℤ) → unsigned_abs z ≤ 104857600000000 → unsigned_abs (to_z w64 (of_z w64 z)) ^ 2 ≡ unsigned_abs z ^ 2

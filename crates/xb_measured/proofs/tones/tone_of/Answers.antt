@@ -2,7 +2,7 @@ use Rattle.std.proofs.Common.{◌≡◌, ◌∙◌, ◌-◌, List, ap, ap₂, ar
 use mir.Syntax.{w128}
 use Rattle.std.proofs.lemmas.Int.{to_z-of_z}
 use Rattle.std.proofs.lemmas.List.{take_all}
-use Rattle.xb_measured.specs.declared.waves.Sums.{Sums}
+use Rattle.xb_measured.specs.declared.wave_sums.Sums.{Sums}
 use Rattle.xb_measured.specs.Waves.{sums_of}
 use Rattle.xb_measured.specs.Tones.{hz_with, off_of, tone_by}
 use Rattle.xb_measured.proofs.ToneSteps.{tone-is}

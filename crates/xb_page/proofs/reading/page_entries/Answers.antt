@@ -1,11 +1,11 @@
-use Rattle.std.proofs.Common.{◌≡◌, ◌∙◌, ℕ, List, [], ◌∷◌, length, ap, sym, inr, arith, rules, Err, false}
+use Rattle.std.proofs.Common.{◌≡◌, ◌∙◌, [], ◌∷◌, length, ap, sym, inr, arith, rules, Err}
 use Rattle.std.specs.Prelude.{option_copied}
 use Rattle.xb_page.specs.declared.fault.PageFault.TheVariants as fault
 use Rattle.xb_page.specs.ReadPages.{IsFaultOf, after, entries_from, entries_of_page, first_place, is_end}
 use Rattle.xb_page.specs.Places.{line_feed, text_line}
 use Rattle.xb_text.specs.Pieces.{pieces, pieces_left}
 use Rattle.xb_page.specs.declared.page_place.PagePlace.{PagePlace}
-use Rattle.xb_page.proofs.ReadSteps.{after-none, few-lines, line-early, line-fault, line-last, line-more, line-none, lines-end}
+use Rattle.xb_page.proofs.ReadSteps.{after-none, few-lines, has-line, line-early, line-fault, line-last, line-more, line-none, lines-end}
 use Rattle.xb_page.proofs.reading.page_entries.Goals as goal
 
 pub loop-left-init : goal.loop-left-init
@@ -29,64 +29,40 @@ returns-then-is_end-clause-fault c =
 
 pub returns-in_err-end-clause-fault : goal.returns-in_err-end-clause-fault
 returns-in_err-end-clause-fault c =
-    let old = c.loop-left.entries.items in
-    let place = c.loop-left.place in
-    let first : List ℕ = c.first_piece.result.0.now in
-    let rest = pieces_left line_feed (option_copied c.first_piece.result.1) in
-    let lines : pieces_left line_feed (option_copied c.loop-left.left) ≡ first ∷ rest =
-    ap (λ o. pieces_left line_feed (option_copied o)) c.in-Some.is ∙ c.first_piece.ensures in
-    let all : entries_of_page c.args.page.now ≡ after old (entries_from place (first ∷ rest)) =
-    c.loop-left.invariant.entries ∙ ap (λ ls. after old (entries_from place ls)) lines in
-    let more : is_end (first ∷ rest) ≡ false = ap is_end (sym c.first_piece.ensures) ∙ sym c.if-is_end.ensures in
+    let has = has-line (entries_of_page c.args.page.now) c.loop-left.place c.loop-left.entries.items c.loop-left.left
+    c.in-Some.text c.first_piece.result.0.now (pieces_left line_feed (option_copied c.first_piece.result.1))
+    c.loop-left.invariant.entries c.in-Some.is c.first_piece.ensures c.if-is_end.ensures in
     let wrong : IsFaultOf (entries_of_page c.args.page.now) c.in_err-end.field-0.0 =
-    inr (line-early (entries_of_page c.args.page.now) place first rest old c.in_err-end.field-0.0 all more
-    (sym c.if-is_totals.ensures) c.in_err-end.ensures.fault) in
+    inr (line-early _ _ _ _ _ c.in_err-end.field-0.0 has (sym c.if-is_totals.ensures) c.in_err-end.ensures.fault) in
     search rules
 
 pub returns-then-is_totals-clause-entries : goal.returns-then-is_totals-clause-entries
 returns-then-is_totals-clause-entries c =
-    let old = c.loop-left.entries.items in
-    let place = c.loop-left.place in
-    let first : List ℕ = c.first_piece.result.0.now in
-    let rest = pieces_left line_feed (option_copied c.first_piece.result.1) in
-    let lines : pieces_left line_feed (option_copied c.loop-left.left) ≡ first ∷ rest =
-    ap (λ o. pieces_left line_feed (option_copied o)) c.in-Some.is ∙ c.first_piece.ensures in
-    let all : entries_of_page c.args.page.now ≡ after old (entries_from place (first ∷ rest)) =
-    c.loop-left.invariant.entries ∙ ap (λ ls. after old (entries_from place ls)) lines in
-    let more : is_end (first ∷ rest) ≡ false = ap is_end (sym c.first_piece.ensures) ∙ sym c.if-is_end.ensures in
-    line-last (entries_of_page c.args.page.now) place first rest old all more (sym c.if-is_totals.ensures)
-    c.in_ok-end.ensures.end
+    let has = has-line (entries_of_page c.args.page.now) c.loop-left.place c.loop-left.entries.items c.loop-left.left
+    c.in-Some.text c.first_piece.result.0.now (pieces_left line_feed (option_copied c.first_piece.result.1))
+    c.loop-left.invariant.entries c.in-Some.is c.first_piece.ensures c.if-is_end.ensures in
+    line-last _ _ _ _ _ has (sym c.if-is_totals.ensures) c.in_ok-end.ensures.end
 
 pub returns-in_err-place-clause-fault : goal.returns-in_err-place-clause-fault
 returns-in_err-place-clause-fault c =
-    let old = c.loop-left.entries.items in
-    let place = c.loop-left.place in
-    let first : List ℕ = c.first_piece.result.0.now in
-    let rest = pieces_left line_feed (option_copied c.first_piece.result.1) in
-    let lines : pieces_left line_feed (option_copied c.loop-left.left) ≡ first ∷ rest =
-    ap (λ o. pieces_left line_feed (option_copied o)) c.in-Some.is ∙ c.first_piece.ensures in
-    let all : entries_of_page c.args.page.now ≡ after old (entries_from place (first ∷ rest)) =
-    c.loop-left.invariant.entries ∙ ap (λ ls. after old (entries_from place ls)) lines in
-    let more : is_end (first ∷ rest) ≡ false = ap is_end (sym c.first_piece.ensures) ∙ sym c.if-is_end.ensures in
+    let has = has-line (entries_of_page c.args.page.now) c.loop-left.place c.loop-left.entries.items c.loop-left.left
+    c.in-Some.text c.first_piece.result.0.now (pieces_left line_feed (option_copied c.first_piece.result.1))
+    c.loop-left.invariant.entries c.in-Some.is c.first_piece.ensures c.if-is_end.ensures in
     let wrong : IsFaultOf (entries_of_page c.args.page.now) c.in_err-place.field-0.0 =
-    line-fault (entries_of_page c.args.page.now) place first rest old c.in_err-place.field-0.0 all more
-    (sym c.if-is_totals.ensures) c.in_err-place.ensures.fault in
+    line-fault _ _ _ _ _ c.in_err-place.field-0.0 has (sym c.if-is_totals.ensures) c.in_err-place.ensures.fault in
     search rules
 
 pub loop-left-preserved : goal.loop-left-preserved
 loop-left-preserved c =
-    let old = c.loop-left.entries.items in
-    let place = c.loop-left.place in
-    let first : List ℕ = c.first_piece.result.0.now in
-    let rest = pieces_left line_feed (option_copied c.first_piece.result.1) in
-    let lines : pieces_left line_feed (option_copied c.loop-left.left) ≡ first ∷ rest =
+    let has = has-line (entries_of_page c.args.page.now) c.loop-left.place c.loop-left.entries.items c.loop-left.left
+    c.in-Some.text c.first_piece.result.0.now (pieces_left line_feed (option_copied c.first_piece.result.1))
+    c.loop-left.invariant.entries c.in-Some.is c.first_piece.ensures c.if-is_end.ensures in
+    let lines : pieces_left line_feed (option_copied c.loop-left.left)
+    ≡ c.first_piece.result.0.now ∷ pieces_left line_feed (option_copied c.first_piece.result.1) =
     ap (λ o. pieces_left line_feed (option_copied o)) c.in-Some.is ∙ c.first_piece.ensures in
-    let all : entries_of_page c.args.page.now ≡ after old (entries_from place (first ∷ rest)) =
-    c.loop-left.invariant.entries ∙ ap (λ ls. after old (entries_from place ls)) lines in
-    let more : is_end (first ∷ rest) ≡ false = ap is_end (sym c.first_piece.ensures) ∙ sym c.if-is_end.ensures in
     record {
-      entries = line-more (entries_of_page c.args.page.now) place c.in_ok-place.place first rest old
-          c.take_line.new.entries.items all more (sym c.if-is_totals.ensures) c.in_ok-place.ensures.taken;
+      entries = line-more _ _ c.in_ok-place.place _ _ _ c.take_line.new.entries.items has (sym c.if-is_totals.ensures)
+          c.in_ok-place.ensures.taken;
       lines = omega (arith, c.loop-left.invariant.lines, c.in_ok-place.ensures.lines, ap length lines);
       numbers = omega (arith, c.loop-left.invariant.numbers, c.in_ok-place.ensures.lines, c.in_ok-place.ensures.entries);
     }

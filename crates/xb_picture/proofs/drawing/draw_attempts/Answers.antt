@@ -1,23 +1,19 @@
-use Rattle.std.proofs.Common.{◌≡◌, ◌++◌, ◌∙◌, ap, ap₂, map}
+use Rattle.std.proofs.Common.{◌≡◌, ◌++◌, ◌∙◌, ℕ, List, ap, ap₂, map, string_bytes}
 use Rattle.xb_heard.specs.Attempts.{attempt_in}
-use Rattle.xb_picture.specs.Shapes.{picture_text}
+use Rattle.xb_svg.specs.Drawings.{drawing_text, says as said}
+use Rattle.xb_picture.specs.Drawing.{many, skipped}
 use Rattle.xb_picture.specs.Pictures.{picture_words}
-use Rattle.xb_picture.specs.Said.{said}
 use Rattle.xb_picture.proofs.drawing.draw_attempts.Goals as goal
 
 pub returns : goal.returns
 returns c =
-    let picture = c.in_ok-picture.picture in
-    let heard : said picture.shapes.items ≡ picture_words c.args.limits c.args.line c.skipped.result c.many.result
-    (map attempt_in c.args.attempts.now) =
-    c.in_ok-picture.ensures in
+    let words = λ (b k : ℕ). picture_words c.args.limits c.args.line b k (map attempt_in c.args.attempts.now) in
+    let drawn = c.in_ok-push_drawing.ensures in
+    let heard : said c.deref.result.now ≡ words (skipped c.args.attempt) (many c.args.attempt) =
+    ap said c.deref.ensures.value ∙ c.in_ok-sheet.ensures ∙ ap₂ words c.skipped.ensures c.many.ensures in
     record {
-      height = picture.height;
-      shapes = picture.shapes.items;
-      drawn = c.in_ok-push_picture.ensures
-          ∙ ap (λ t. t ++ picture_text 6520 picture.height c.deref.result.now) c.new-out.ensures.bytes
-          ∙ ap (picture_text 6520 picture.height) c.deref.ensures.value;
-      says = heard
-          ∙ ap₂ (λ b k. picture_words c.args.limits c.args.line b k (map attempt_in c.args.attempts.now))
-          c.skipped.ensures c.many.ensures;
+      looks = drawn.looks;
+      is = drawn.put
+          ∙ ap (λ (t : List ℕ). t ++ drawing_text drawn.looks (said c.deref.result.now)) c.new-out.ensures.bytes
+          ∙ ap (drawing_text drawn.looks) heard;
     }

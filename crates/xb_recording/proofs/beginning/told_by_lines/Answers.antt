@@ -6,15 +6,17 @@ use Rattle.xb_recording.specs.Says.{lines_in, plain_line, plain_lines, text_line
 use Rattle.xb_recording.proofs.ToldLemmas.{cut_less, passed_last, passed_next, told_last, told_next, told_so}
 use Rattle.xb_recording.proofs.beginning.told_by_lines.Goals as goal
 
+-- what is found is the cut of a text
+abbrev IsCut : List ℕ → Option (Bor (List ℕ) × Bor (List ℕ)) → Type 0
+IsCut text found = option_map (λ parts. (parts.0.now, parts.1.now)) found ≡ cut_at 10 text
+
 pub returns-then-not-is_passed_over-clause-told : goal.returns-then-not-is_passed_over-clause-told
 returns-then-not-is_passed_over-clause-told c = λ later end.
     let rest : List ℕ = c.loop-line.rest.now in
     let first = c.loop-line.is_first in
     let line : List ℕ = c.in-Some.line.now in
     let after : List ℕ = c.in-Some.later.now in
-    let P : Option (Bor (List ℕ) × Bor (List ℕ)) → Type 0 =
-    λ found. option_map (λ parts. (parts.0.now, parts.1.now)) found ≡ cut_at 10 rest in
-    let cut : Some (line, after) ≡ cut_at 10 rest = subst P c.in-Some.is c.cut_at.ensures in
+    let cut : Some (line, after) ≡ cut_at 10 rest = subst (IsCut rest) c.in-Some.is c.cut_at.ensures in
     let read : c.without_mark-line.result.now ≡ plain_line first line = c.without_mark-line.ensures in
     let not_passed : c.is_passed_over.result ≡ false = search rules in
     let passed : is_passed_over (plain_line first line) ≡ false =
@@ -30,9 +32,7 @@ returns-then-not-is_passed_over-clause-open c = λ going all.
     let first = c.loop-line.is_first in
     let line : List ℕ = c.in-Some.line.now in
     let after : List ℕ = c.in-Some.later.now in
-    let P : Option (Bor (List ℕ) × Bor (List ℕ)) → Type 0 =
-    λ found. option_map (λ parts. (parts.0.now, parts.1.now)) found ≡ cut_at 10 rest in
-    let cut : Some (line, after) ≡ cut_at 10 rest = subst P c.in-Some.is c.cut_at.ensures in
+    let cut : Some (line, after) ≡ cut_at 10 rest = subst (IsCut rest) c.in-Some.is c.cut_at.ensures in
     let not_passed : c.is_passed_over.result ≡ false = search rules in
     let passed : is_passed_over (plain_line first line) ≡ false =
     ap is_passed_over (sym c.without_mark-line.ensures) ∙ sym c.is_passed_over.ensures ∙ not_passed in
@@ -44,9 +44,7 @@ returns-then-not-is_passed_over-clause-open c = λ going all.
 pub loop-line-smaller : goal.loop-line-smaller
 loop-line-smaller c =
     let rest : List ℕ = c.loop-line.rest.now in
-    let P : Option (Bor (List ℕ) × Bor (List ℕ)) → Type 0 =
-    λ found. option_map (λ parts. (parts.0.now, parts.1.now)) found ≡ cut_at 10 rest in
-    cut_less rest c.in-Some.line.now c.in-Some.later.now (subst P c.in-Some.is c.cut_at.ensures)
+    cut_less rest c.in-Some.line.now c.in-Some.later.now (subst (IsCut rest) c.in-Some.is c.cut_at.ensures)
 
 pub loop-line-preserved : goal.loop-line-preserved
 loop-line-preserved c =
@@ -54,13 +52,10 @@ loop-line-preserved c =
     let first = c.loop-line.is_first in
     let line : List ℕ = c.in-Some.line.now in
     let after : List ℕ = c.in-Some.later.now in
-    let P : Option (Bor (List ℕ) × Bor (List ℕ)) → Type 0 =
-    λ found. option_map (λ parts. (parts.0.now, parts.1.now)) found ≡ cut_at 10 rest in
-    let cut : Some (line, after) ≡ cut_at 10 rest = subst P c.in-Some.is c.cut_at.ensures in
-    let read : c.without_mark-line.result.now ≡ plain_line first line = c.without_mark-line.ensures in
+    let cut : Some (line, after) ≡ cut_at 10 rest = subst (IsCut rest) c.in-Some.is c.cut_at.ensures in
     let is_passed : c.is_passed_over.result ≡ true = search rules in
     let passed : is_passed_over (plain_line first line) ≡ true =
-    ap is_passed_over (sym read) ∙ sym c.is_passed_over.ensures ∙ is_passed in
+    ap is_passed_over (sym c.without_mark-line.ensures) ∙ sym c.is_passed_over.ensures ∙ is_passed in
     record {
       told = λ later. c.loop-line.invariant.told later ∙ told_next rest line after later first cut
           ∙ ap (λ b. cond b (told_by_lines (plain_lines false (lines_in [] (after ++ later))))
@@ -73,9 +68,7 @@ pub returns-clause-told : goal.returns-clause-told
 returns-clause-told c = λ later end.
     let rest : List ℕ = c.loop-line.rest.now in
     let first = c.loop-line.is_first in
-    let P : Option (Bor (List ℕ) × Bor (List ℕ)) → Type 0 =
-    λ found. option_map (λ parts. (parts.0.now, parts.1.now)) found ≡ cut_at 10 rest in
-    let none : None ≡ cut_at 10 rest = subst P c.in_default.is c.cut_at.ensures in
+    let none : None ≡ cut_at 10 rest = subst (IsCut rest) c.in_default.is c.cut_at.ensures in
     let T : List ℕ → Type 0 = λ l. IsTold c.told_by_last.result (last_told l) in
     told_last c.told_by_last.result c.args.text.now rest later first c.args.is_end c.loop-line.invariant.told none end
     (λ e. subst T c.without_mark.ensures (c.told_by_last.ensures.told e)) c.told_by_last.ensures.open
@@ -83,6 +76,4 @@ returns-clause-told c = λ later end.
 pub returns-clause-yet : goal.returns-clause-yet
 returns-clause-yet c = λ more.
     let rest : List ℕ = c.loop-line.rest.now in
-    let P : Option (Bor (List ℕ) × Bor (List ℕ)) → Type 0 =
-    λ found. option_map (λ parts. (parts.0.now, parts.1.now)) found ≡ cut_at 10 rest in
-    c.loop-line.invariant.passed ∙ passed_last rest c.loop-line.is_first (subst P c.in_default.is c.cut_at.ensures)
+    c.loop-line.invariant.passed ∙ passed_last rest c.loop-line.is_first (subst (IsCut rest) c.in_default.is c.cut_at.ensures)

@@ -17,10 +17,10 @@ returns-then-is_archive-clause-told c = λ later end.
       | else-beginning-lt4-via-then-beginning-lt4+else-not-is_end w ↦ λ going. absurd (true≢false (sym w.if-not-is_end.false ∙ going))
       | else-beginning-lt4-via-else-beginning-lt4 w ↦ λ going. w.if-beginning-lt4.false
     ] in
-    let no_wav : starts_with nat_eq (text ++ later) (codes "RIFF") ≡ false = begins_same 82 73 70 70 text later c.args.is_end end four ∙ plain in
-    let is : is_archive (text ++ later) ≡ true = begins_same 80 75 3 4 text later c.args.is_end end four ∙ archive in
-    ap (λ is_wav. cond is_wav (Some formats.Wav) (cond (is_archive (text ++ later)) None (told_by_lines (text_lines (text ++ later))))) no_wav
-    ∙ ap (λ a. cond a None (told_by_lines (text_lines (text ++ later)))) is
+    ap (λ is_wav. cond is_wav (Some formats.Wav) (cond (is_archive (text ++ later)) None (told_by_lines (text_lines (text ++ later)))))
+    (begins_same 82 73 70 70 text later c.args.is_end end four ∙ plain)
+    ∙ ap (λ a. cond a None (told_by_lines (text_lines (text ++ later))))
+    (begins_same 80 75 3 4 text later c.args.is_end end four ∙ archive)
 
 pub returns-clause-told : goal.returns-clause-told
 returns-clause-told c = λ later end.

@@ -15,7 +15,7 @@ loop-i-preserved c =
     let inside = subst N (sym c.loop-i.auto.wires) c.loop-i-test.true in
     record {
       events = change_heard c.args.channel high c.args.tick sample wires c.loop-i.i _ wire c.loop-i.events.items
-          c.say_change.new.events.items _ inside c.wire_after-after.ensures c.in_ok-say_change.ensures.said c.loop-i.invariant.events;
+          c.say_edge.new.events.items _ inside c.wire_after-after.ensures c.in_ok-say_edge.ensures.said c.loop-i.invariant.events;
       wires = wire_heard (wire_after c.args.channel high sample) wires c.loop-i.i _ wire _ inside c.wire_after-after.ensures
           c.loop-i.invariant.wires;
     }

@@ -1,11 +1,11 @@
 use Rattle.std.proofs.Common.{◌≡◌, ◌∷◌, ◌++◌, [], rules}
-use Rattle.xb_samples.specs.Sounds.{open_wire, wires_of}
+use Rattle.xb_samples.specs.Sounds.{new_wire, wires_of}
 use Rattle.xb_samples.proofs.NameLemmas.{texts, wires_more, wires_refused, wires_whole}
 use Rattle.xb_samples.proofs.sound.wires_of.Goals as goal
 
 pub loop-wire-preserved : goal.loop-wire-preserved
 loop-wire-preserved c =
-    let pushed : c.push.new.self.items ≡ c.loop-wire.wires.items ++ open_wire c.in-Some.number ∷ [] = search rules in
+    let pushed : c.push.new.self.items ≡ c.loop-wire.wires.items ++ new_wire c.in-Some.number ∷ [] = search rules in
     wires_more c.args.channels c.args.names.now c.loop-wire.wire _ c.loop-wire.wires.items c.push.new.self.items
     c.in-Some.number (wires_of c.args.channels (texts c.args.names.now)) c.loop-wire-test.true c.in-Some.ensures pushed
     c.loop-wire.invariant

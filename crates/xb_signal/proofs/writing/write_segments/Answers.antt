@@ -17,58 +17,40 @@ loop-segment-init g c = record { moment = c.start-moment.ensures; written = Appe
 
 pub loop-segment-preserved : goal.loop-segment-preserved
 loop-segment-preserved g c =
-    let setting = c.args.setting.now in
-    let segments = c.args.segments.now in
-    let i = c.loop-segment.segment-index in
-    let segment = c.segment-item.result in
-    let old = g.W.Write.contents c.args.out.now in
-    let mid = g.W.Write.contents c.loop-segment.out in
-    let new = g.W.Write.contents c.write_segment.new.out in
-    let before : Moment = moment_before (start setting.seed) (take i segments) in
-    let part : Appends mid new (samples_coded setting.form (segment_sound setting before segment)) =
-    subst (λ (moment : Moment). Appends mid new (samples_coded setting.form (segment_sound setting moment segment))) c.loop-segment.invariant.moment
+    let before : Moment = moment_before (start c.args.setting.now.seed) (take c.loop-segment.segment-index c.args.segments.now) in
+    let part : Appends (g.W.Write.contents c.loop-segment.out) (g.W.Write.contents c.write_segment.new.out) (samples_coded c.args.setting.now.form (segment_sound c.args.setting.now before c.segment-item.result)) =
+    subst (λ (moment : Moment). Appends (g.W.Write.contents c.loop-segment.out) (g.W.Write.contents c.write_segment.new.out) (samples_coded c.args.setting.now.form (segment_sound c.args.setting.now moment c.segment-item.result))) c.loop-segment.invariant.moment
     c.in_ok-write_segment.ensures.whole in
     record {
       moment =
           c.after-moment.ensures
           ∙ ap (λ (n : ℕ). moment_after c.loop-segment.moment n) c.segment_length.ensures.value
-          ∙ ap (λ (moment : Moment). moment_after moment (segment.ms * 8)) c.loop-segment.invariant.moment
-          ∙ sym (moment-taken (start setting.seed) segments i segment c.loop-segment-test.true c.segment-item.is);
+          ∙ ap (λ (moment : Moment). moment_after moment (c.segment-item.result.ms * 8)) c.loop-segment.invariant.moment
+          ∙ sym (moment-taken (start c.args.setting.now.seed) c.args.segments.now c.loop-segment.segment-index c.segment-item.result c.loop-segment-test.true c.segment-item.is);
       written =
-          subst (λ (bytes : List ℕ). Appends old new bytes)
-          (sym (signal-next setting (start setting.seed) segments i segment c.loop-segment-test.true c.segment-item.is))
-          (Appends-trans old mid new (samples_coded setting.form (signal_of setting (take i segments)))
-          (samples_coded setting.form (segment_sound setting before segment)) c.loop-segment.invariant.written part);
+          subst (λ (bytes : List ℕ). Appends (g.W.Write.contents c.args.out.now) (g.W.Write.contents c.write_segment.new.out) bytes)
+          (sym (signal-next c.args.setting.now (start c.args.setting.now.seed) c.args.segments.now c.loop-segment.segment-index c.segment-item.result c.loop-segment-test.true c.segment-item.is))
+          (Appends-trans (g.W.Write.contents c.args.out.now) (g.W.Write.contents c.loop-segment.out) (g.W.Write.contents c.write_segment.new.out) (samples_coded c.args.setting.now.form (signal_of c.args.setting.now (take c.loop-segment.segment-index c.args.segments.now)))
+          (samples_coded c.args.setting.now.form (segment_sound c.args.setting.now before c.segment-item.result)) c.loop-segment.invariant.written part);
     }
 
 pub returns-in_err-write_segment-clause-beginning : goal.returns-in_err-write_segment-clause-beginning
 returns-in_err-write_segment-clause-beginning g c =
-    let setting = c.args.setting.now in
-    let segments = c.args.segments.now in
-    let i = c.loop-segment.segment-index in
-    let segment = c.segment-item.result in
-    let old = g.W.Write.contents c.args.out.now in
-    let mid = g.W.Write.contents c.loop-segment.out in
-    let new = g.W.Write.contents c.write_segment.new.out in
-    let before : Moment = moment_before (start setting.seed) (take i segments) in
-    let rest = samples_coded setting.form (signal_from setting (moment_after before (segment.ms * 8)) (drop (suc i) segments)) in
-    let part = samples_coded setting.form (segment_sound setting before segment) in
-    let begun : AppendsBeginning mid new part =
-    subst (λ (moment : Moment). AppendsBeginning mid new (samples_coded setting.form (segment_sound setting moment segment)))
+    let before : Moment = moment_before (start c.args.setting.now.seed) (take c.loop-segment.segment-index c.args.segments.now) in
+    let rest = samples_coded c.args.setting.now.form (signal_from c.args.setting.now (moment_after before (c.segment-item.result.ms * 8)) (drop (suc c.loop-segment.segment-index) c.args.segments.now)) in
+    let part = samples_coded c.args.setting.now.form (segment_sound c.args.setting.now before c.segment-item.result) in
+    let begun : AppendsBeginning (g.W.Write.contents c.loop-segment.out) (g.W.Write.contents c.write_segment.new.out) part =
+    subst (λ (moment : Moment). AppendsBeginning (g.W.Write.contents c.loop-segment.out) (g.W.Write.contents c.write_segment.new.out) (samples_coded c.args.setting.now.form (segment_sound c.args.setting.now moment c.segment-item.result)))
     c.loop-segment.invariant.moment c.write_segment.ensures.beginning in
-    subst (λ bytes. AppendsBeginning old new bytes)
-    (sym (signal-parts setting (start setting.seed) segments i segment c.loop-segment-test.true c.segment-item.is))
-    (beginning-after old mid new (samples_coded setting.form (signal_of setting (take i segments))) (part ++ rest)
-    c.loop-segment.invariant.written (beginning-more mid new part rest begun))
+    subst (λ bytes. AppendsBeginning (g.W.Write.contents c.args.out.now) (g.W.Write.contents c.write_segment.new.out) bytes)
+    (sym (signal-parts c.args.setting.now (start c.args.setting.now.seed) c.args.segments.now c.loop-segment.segment-index c.segment-item.result c.loop-segment-test.true c.segment-item.is))
+    (beginning-after (g.W.Write.contents c.args.out.now) (g.W.Write.contents c.loop-segment.out) (g.W.Write.contents c.write_segment.new.out) (samples_coded c.args.setting.now.form (signal_of c.args.setting.now (take c.loop-segment.segment-index c.args.segments.now))) (part ++ rest)
+    c.loop-segment.invariant.written (beginning-more (g.W.Write.contents c.loop-segment.out) (g.W.Write.contents c.write_segment.new.out) part rest begun))
 
 pub returns-clause-beginning : goal.returns-clause-beginning
 returns-clause-beginning g c =
-    let setting = c.args.setting.now in
-    let segments = c.args.segments.now in
-    let old = g.W.Write.contents c.args.out.now in
-    let new = g.W.Write.contents c.loop-segment.out in
-    let past : length segments ≤ c.loop-segment.segment-index = omega arith in
-    subst (λ (all : List Segment). AppendsBeginning old new (samples_coded setting.form (signal_of setting all)))
-    (take_all c.loop-segment.segment-index segments past)
-    (whole-begins old new (samples_coded setting.form (signal_of setting (take c.loop-segment.segment-index segments)))
+    let past : length c.args.segments.now ≤ c.loop-segment.segment-index = omega arith in
+    subst (λ (all : List Segment). AppendsBeginning (g.W.Write.contents c.args.out.now) (g.W.Write.contents c.loop-segment.out) (samples_coded c.args.setting.now.form (signal_of c.args.setting.now all)))
+    (take_all c.loop-segment.segment-index c.args.segments.now past)
+    (whole-begins (g.W.Write.contents c.args.out.now) (g.W.Write.contents c.loop-segment.out) (samples_coded c.args.setting.now.form (signal_of c.args.setting.now (take c.loop-segment.segment-index c.args.segments.now)))
     c.loop-segment.invariant.written)

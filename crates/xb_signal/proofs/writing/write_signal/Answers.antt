@@ -10,43 +10,32 @@ use Rattle.xb_signal.proofs.writing.write_signal.Goals as goal
 
 pub returns-in_err-write_whole-clause-beginning : goal.returns-in_err-write_whole-clause-beginning
 returns-in_err-write_whole-clause-beginning g c =
-    let old = g.W.Write.contents c.args.out.now in
-    let mid = g.W.Write.contents c.write_whole.new.out in
     let head = head_before c.args.setting.now.form c.args.raw c.args.segments.now in
     let rest = samples_coded c.args.setting.now.form (signal_of c.args.setting.now c.args.segments.now) in
-    beginning-more old mid head rest
-    (subst (λ (bytes : List ℕ). AppendsBeginning old mid bytes) (c.deref.ensures.value ∙ c.in_ok-head.ensures.head)
+    beginning-more (g.W.Write.contents c.args.out.now) (g.W.Write.contents c.write_whole.new.out) head rest
+    (subst (λ (bytes : List ℕ). AppendsBeginning (g.W.Write.contents c.args.out.now) (g.W.Write.contents c.write_whole.new.out) bytes) (c.deref.ensures.value ∙ c.in_ok-head.ensures.head)
     c.write_whole.ensures.beginning)
 
 pub returns-in_err-write_segments-clause-beginning : goal.returns-in_err-write_segments-clause-beginning
 returns-in_err-write_segments-clause-beginning g c =
-    let old = g.W.Write.contents c.args.out.now in
-    let mid = g.W.Write.contents c.write_whole.new.out in
-    let new = g.W.Write.contents c.write_segments.new.out in
     let head = head_before c.args.setting.now.form c.args.raw c.args.segments.now in
     let rest = samples_coded c.args.setting.now.form (signal_of c.args.setting.now c.args.segments.now) in
-    beginning-after old mid new head rest
-    (subst (λ (bytes : List ℕ). Appends old mid bytes) (c.deref.ensures.value ∙ c.in_ok-head.ensures.head)
+    beginning-after (g.W.Write.contents c.args.out.now) (g.W.Write.contents c.write_whole.new.out) (g.W.Write.contents c.write_segments.new.out) head rest
+    (subst (λ (bytes : List ℕ). Appends (g.W.Write.contents c.args.out.now) (g.W.Write.contents c.write_whole.new.out) bytes) (c.deref.ensures.value ∙ c.in_ok-head.ensures.head)
     c.in_ok-write_whole.ensures.whole) c.write_segments.ensures.beginning
 
 pub returns-clause-whole : goal.returns-clause-whole
 returns-clause-whole g c =
-    let old = g.W.Write.contents c.args.out.now in
-    let mid = g.W.Write.contents c.write_whole.new.out in
-    let new = g.W.Write.contents c.write_segments.new.out in
     let head = head_before c.args.setting.now.form c.args.raw c.args.segments.now in
     let rest = samples_coded c.args.setting.now.form (signal_of c.args.setting.now c.args.segments.now) in
-    Appends-trans old mid new head rest
-    (subst (λ (bytes : List ℕ). Appends old mid bytes) (c.deref.ensures.value ∙ c.in_ok-head.ensures.head)
+    Appends-trans (g.W.Write.contents c.args.out.now) (g.W.Write.contents c.write_whole.new.out) (g.W.Write.contents c.write_segments.new.out) head rest
+    (subst (λ (bytes : List ℕ). Appends (g.W.Write.contents c.args.out.now) (g.W.Write.contents c.write_whole.new.out) bytes) (c.deref.ensures.value ∙ c.in_ok-head.ensures.head)
     c.in_ok-write_whole.ensures.whole) c.in_ok-write_segments.ensures.whole
 
 pub returns-clause-beginning : goal.returns-clause-beginning
 returns-clause-beginning g c =
-    let old = g.W.Write.contents c.args.out.now in
-    let mid = g.W.Write.contents c.write_whole.new.out in
-    let new = g.W.Write.contents c.write_segments.new.out in
     let head = head_before c.args.setting.now.form c.args.raw c.args.segments.now in
     let rest = samples_coded c.args.setting.now.form (signal_of c.args.setting.now c.args.segments.now) in
-    beginning-after old mid new head rest
-    (subst (λ (bytes : List ℕ). Appends old mid bytes) (c.deref.ensures.value ∙ c.in_ok-head.ensures.head)
+    beginning-after (g.W.Write.contents c.args.out.now) (g.W.Write.contents c.write_whole.new.out) (g.W.Write.contents c.write_segments.new.out) head rest
+    (subst (λ (bytes : List ℕ). Appends (g.W.Write.contents c.args.out.now) (g.W.Write.contents c.write_whole.new.out) bytes) (c.deref.ensures.value ∙ c.in_ok-head.ensures.head)
     c.in_ok-write_whole.ensures.whole) c.write_segments.ensures.beginning

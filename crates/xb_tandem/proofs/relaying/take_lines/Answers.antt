@@ -144,7 +144,7 @@ returns-clause-page g c =
     let so = c.loop-before.invariant in
     comes-same limit office c.loop-before.office text _ start out so.form so.line so.table
     (so_far-many (c.loop-before.before + 1) limit c.loop-before.office text (g.R.Read.remaining c.loop-before.keys) start out
-    so.so_far)
+    (omega (arith, c.loop-before-test.false)) so.so_far)
 
 pub returns-in_err-next_line-clause-kind : goal.returns-in_err-next_line-clause-kind
 returns-in_err-next_line-clause-kind g c =

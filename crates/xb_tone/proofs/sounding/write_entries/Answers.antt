@@ -25,45 +25,29 @@ loop-entry-init g c =
 
 pub returns-in_err-write_entry-clause-beginning : goal.returns-in_err-write_entry-clause-beginning
 returns-in_err-write_entry-clause-beginning g c =
-    let cadence = c.args.cadence in
-    let entry = c.in-Some.entry.now in
-    let later = c.in-Some.later.now in
-    let start = g.W.Write.contents c.args.out.now in
-    let mid = g.W.Write.contents c.loop-entry.out in
-    let new = g.W.Write.contents c.write_entry.new.out in
-    let so : IsSoFar cadence c.args.entries.now (entry ∷ later) start mid =
-    subst (λ left. IsSoFar cadence c.args.entries.now left start mid) c.in-Some.ensures.cases.0 c.loop-entry.invariant in
-    so_far-part cadence c.args.entries.now entry later start mid new so
-    (subst (λ next. AppendsBeginning mid new (pcm_of (sound_before cadence entry next))) c.first.ensures.value
+    let so : IsSoFar c.args.cadence c.args.entries.now (c.in-Some.entry.now ∷ c.in-Some.later.now) (g.W.Write.contents c.args.out.now) (g.W.Write.contents c.loop-entry.out) =
+    subst (λ left. IsSoFar c.args.cadence c.args.entries.now left (g.W.Write.contents c.args.out.now) (g.W.Write.contents c.loop-entry.out)) c.in-Some.ensures.cases.0 c.loop-entry.invariant in
+    so_far-part c.args.cadence c.args.entries.now c.in-Some.entry.now c.in-Some.later.now (g.W.Write.contents c.args.out.now) (g.W.Write.contents c.loop-entry.out) (g.W.Write.contents c.write_entry.new.out) so
+    (subst (λ next. AppendsBeginning (g.W.Write.contents c.loop-entry.out) (g.W.Write.contents c.write_entry.new.out) (pcm_of (sound_before c.args.cadence c.in-Some.entry.now next))) c.first.ensures.value
     c.write_entry.ensures.beginning)
 
 pub loop-entry-preserved : goal.loop-entry-preserved
 loop-entry-preserved g c =
-    let cadence = c.args.cadence in
-    let entry = c.in-Some.entry.now in
-    let later = c.in-Some.later.now in
-    let start = g.W.Write.contents c.args.out.now in
-    let mid = g.W.Write.contents c.loop-entry.out in
-    let new = g.W.Write.contents c.write_entry.new.out in
-    let so : IsSoFar cadence c.args.entries.now (entry ∷ later) start mid =
-    subst (λ left. IsSoFar cadence c.args.entries.now left start mid) c.in-Some.ensures.cases.0 c.loop-entry.invariant in
-    so_far-next cadence c.args.entries.now entry later start mid new so
-    (subst (λ next. Appends mid new (pcm_of (sound_before cadence entry next))) c.first.ensures.value
+    let so : IsSoFar c.args.cadence c.args.entries.now (c.in-Some.entry.now ∷ c.in-Some.later.now) (g.W.Write.contents c.args.out.now) (g.W.Write.contents c.loop-entry.out) =
+    subst (λ left. IsSoFar c.args.cadence c.args.entries.now left (g.W.Write.contents c.args.out.now) (g.W.Write.contents c.loop-entry.out)) c.in-Some.ensures.cases.0 c.loop-entry.invariant in
+    so_far-next c.args.cadence c.args.entries.now c.in-Some.entry.now c.in-Some.later.now (g.W.Write.contents c.args.out.now) (g.W.Write.contents c.loop-entry.out) (g.W.Write.contents c.write_entry.new.out) so
+    (subst (λ next. Appends (g.W.Write.contents c.loop-entry.out) (g.W.Write.contents c.write_entry.new.out) (pcm_of (sound_before c.args.cadence c.in-Some.entry.now next))) c.first.ensures.value
     c.in_ok-write_entry.ensures.whole)
 
 pub returns-clause-whole : goal.returns-clause-whole
 returns-clause-whole g c =
-    let start = g.W.Write.contents c.args.out.now in
-    let out = g.W.Write.contents c.loop-entry.out in
-    so_far-end c.args.cadence c.args.entries.now start out
-    (subst (λ left. IsSoFar c.args.cadence c.args.entries.now left start out)
+    so_far-end c.args.cadence c.args.entries.now (g.W.Write.contents c.args.out.now) (g.W.Write.contents c.loop-entry.out)
+    (subst (λ left. IsSoFar c.args.cadence c.args.entries.now left (g.W.Write.contents c.args.out.now) (g.W.Write.contents c.loop-entry.out))
     (nil_from_length c.loop-entry.left.now c.in_default.ensures.cases) c.loop-entry.invariant)
 
 pub returns-clause-beginning : goal.returns-clause-beginning
 returns-clause-beginning g c =
-    let start = g.W.Write.contents c.args.out.now in
-    let out = g.W.Write.contents c.loop-entry.out in
-    whole-begins start out (pcm_of (sound_at c.args.cadence c.args.entries.now))
-    (so_far-end c.args.cadence c.args.entries.now start out
-    (subst (λ left. IsSoFar c.args.cadence c.args.entries.now left start out)
+    whole-begins (g.W.Write.contents c.args.out.now) (g.W.Write.contents c.loop-entry.out) (pcm_of (sound_at c.args.cadence c.args.entries.now))
+    (so_far-end c.args.cadence c.args.entries.now (g.W.Write.contents c.args.out.now) (g.W.Write.contents c.loop-entry.out)
+    (subst (λ left. IsSoFar c.args.cadence c.args.entries.now left (g.W.Write.contents c.args.out.now) (g.W.Write.contents c.loop-entry.out))
     (nil_from_length c.loop-entry.left.now c.in_default.ensures.cases) c.loop-entry.invariant))

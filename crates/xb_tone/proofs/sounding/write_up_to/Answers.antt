@@ -11,47 +11,28 @@ use Rattle.xb_tone.proofs.sounding.write_up_to.Goals as goal
 
 pub returns-in_err-write_first-clause-beginning : goal.returns-in_err-write_first-clause-beginning
 returns-in_err-write_first-clause-beginning g c =
-    let old = g.W.Write.contents c.args.out.now in
-    let new = g.W.Write.contents c.write_first.new.out in
-    let sound = entry_sound c.args.cadence c.args.entry.now in
-    let first : ℕ = c.min-first.result in
-    subst (λ (bytes : List ℕ). AppendsBeginning old new bytes)
-    (sym (up_to-bytes sound c.sounds_ms.result c.args.ms first c.sounds_ms.ensures c.min-first.ensures))
-    (beginning-more old new (pcm_of (take (first * 8) sound)) (pcm_of (silence (c.args.ms - first)))
+    subst (λ (bytes : List ℕ). AppendsBeginning (g.W.Write.contents c.args.out.now) (g.W.Write.contents c.write_first.new.out) bytes)
+    (sym (up_to-bytes (entry_sound c.args.cadence c.args.entry.now) c.sounds_ms.result c.args.ms c.min-first.result c.sounds_ms.ensures c.min-first.ensures))
+    (beginning-more (g.W.Write.contents c.args.out.now) (g.W.Write.contents c.write_first.new.out) (pcm_of (take (c.min-first.result * 8) (entry_sound c.args.cadence c.args.entry.now))) (pcm_of (silence (c.args.ms - c.min-first.result)))
     c.write_first.ensures.beginning)
 
 pub returns-in_err-write_silence-clause-beginning : goal.returns-in_err-write_silence-clause-beginning
 returns-in_err-write_silence-clause-beginning g c =
-    let old = g.W.Write.contents c.args.out.now in
-    let mid = g.W.Write.contents c.write_first.new.out in
-    let new = g.W.Write.contents c.write_silence.new.out in
-    let sound = entry_sound c.args.cadence c.args.entry.now in
-    let first : ℕ = c.min-first.result in
-    subst (λ (bytes : List ℕ). AppendsBeginning old new bytes)
-    (sym (up_to-bytes sound c.sounds_ms.result c.args.ms first c.sounds_ms.ensures c.min-first.ensures))
-    (beginning-after old mid new (pcm_of (take (first * 8) sound)) (pcm_of (silence (c.args.ms - first)))
+    subst (λ (bytes : List ℕ). AppendsBeginning (g.W.Write.contents c.args.out.now) (g.W.Write.contents c.write_silence.new.out) bytes)
+    (sym (up_to-bytes (entry_sound c.args.cadence c.args.entry.now) c.sounds_ms.result c.args.ms c.min-first.result c.sounds_ms.ensures c.min-first.ensures))
+    (beginning-after (g.W.Write.contents c.args.out.now) (g.W.Write.contents c.write_first.new.out) (g.W.Write.contents c.write_silence.new.out) (pcm_of (take (c.min-first.result * 8) (entry_sound c.args.cadence c.args.entry.now))) (pcm_of (silence (c.args.ms - c.min-first.result)))
     c.in_ok-write_first.ensures.whole c.write_silence.ensures.beginning)
 
 pub returns-clause-beginning : goal.returns-clause-beginning
 returns-clause-beginning g c =
-    let old = g.W.Write.contents c.args.out.now in
-    let mid = g.W.Write.contents c.write_first.new.out in
-    let new = g.W.Write.contents c.write_silence.new.out in
-    let sound = entry_sound c.args.cadence c.args.entry.now in
-    let first : ℕ = c.min-first.result in
-    subst (λ (bytes : List ℕ). AppendsBeginning old new bytes)
-    (sym (up_to-bytes sound c.sounds_ms.result c.args.ms first c.sounds_ms.ensures c.min-first.ensures))
-    (beginning-after old mid new (pcm_of (take (first * 8) sound)) (pcm_of (silence (c.args.ms - first)))
+    subst (λ (bytes : List ℕ). AppendsBeginning (g.W.Write.contents c.args.out.now) (g.W.Write.contents c.write_silence.new.out) bytes)
+    (sym (up_to-bytes (entry_sound c.args.cadence c.args.entry.now) c.sounds_ms.result c.args.ms c.min-first.result c.sounds_ms.ensures c.min-first.ensures))
+    (beginning-after (g.W.Write.contents c.args.out.now) (g.W.Write.contents c.write_first.new.out) (g.W.Write.contents c.write_silence.new.out) (pcm_of (take (c.min-first.result * 8) (entry_sound c.args.cadence c.args.entry.now))) (pcm_of (silence (c.args.ms - c.min-first.result)))
     c.in_ok-write_first.ensures.whole c.write_silence.ensures.beginning)
 
 pub returns-clause-whole : goal.returns-clause-whole
 returns-clause-whole g c =
-    let old = g.W.Write.contents c.args.out.now in
-    let mid = g.W.Write.contents c.write_first.new.out in
-    let new = g.W.Write.contents c.write_silence.new.out in
-    let sound = entry_sound c.args.cadence c.args.entry.now in
-    let first : ℕ = c.min-first.result in
-    subst (λ (bytes : List ℕ). Appends old new bytes)
-    (sym (up_to-bytes sound c.sounds_ms.result c.args.ms first c.sounds_ms.ensures c.min-first.ensures))
-    (Appends-trans old mid new (pcm_of (take (first * 8) sound)) (pcm_of (silence (c.args.ms - first)))
+    subst (λ (bytes : List ℕ). Appends (g.W.Write.contents c.args.out.now) (g.W.Write.contents c.write_silence.new.out) bytes)
+    (sym (up_to-bytes (entry_sound c.args.cadence c.args.entry.now) c.sounds_ms.result c.args.ms c.min-first.result c.sounds_ms.ensures c.min-first.ensures))
+    (Appends-trans (g.W.Write.contents c.args.out.now) (g.W.Write.contents c.write_first.new.out) (g.W.Write.contents c.write_silence.new.out) (pcm_of (take (c.min-first.result * 8) (entry_sound c.args.cadence c.args.entry.now))) (pcm_of (silence (c.args.ms - c.min-first.result)))
     c.in_ok-write_first.ensures.whole c.in_ok-write_silence.ensures.whole)

@@ -1,7 +1,7 @@
 use Rattle.std.proofs.Common.{sym, subst}
 use Rattle.std.proofs.lemmas.Result.{IfErr-weaker}
 use Rattle.xb_contact.specs.Steps.{IsRefusedBy, result_and_then, said_before}
-use Rattle.xb_csv.specs.declared.clock.Clock.{Clock}
+use Rattle.xb_csv.specs.declared.row_times.Clock.{Clock}
 use Rattle.xb_csv.specs.Tables.{edges_row, no_header, row_says, table_state}
 use Rattle.xb_csv.proofs.RowLemmas.{then_refused}
 use Rattle.xb_csv.proofs.columns.Columns.take_edges.Goals as goal

@@ -10,7 +10,7 @@ use Rattle.xb_ear.specs.Levels.{levels_of}
 use Rattle.xb_ear.specs.Pairs.{first_pair, mf_pairs, seen}
 use Rattle.xb_ear.specs.Steady.{beside, lessened}
 use Rattle.xb_ear.specs.Receivers.{HasReceived}
-use Rattle.xb_ear.specs.Tails.{strength, without_tail}
+use Rattle.xb_ear.specs.Tails.{without_tail}
 use Rattle.xb_ear.proofs.Taken.{sees_next, taken-more, taken-same}
 use Rattle.xb_ear.proofs.receiver.Receiver.take.Goals as goal
 
@@ -52,7 +52,7 @@ returns c samples keys taken =
     let recent : take 60 c.shifted-self-inside.result ≡ drop 20 (take filled window ++ x ∷ []) =
     c.shifted-self-inside.ensures ∙ ap (λ (zs : List ℤ). drop 20 zs) written in
     taken-more _ _ samples keys _ x before full recent
-    (c.moved_on-self-inside.ensures ∙ ap (λ (h : ℕ). drop 1 held ++ h ∷ []) (c.strength.ensures.value ∙ ap (λ (s : Option Sight). strength s) sight))
+    (c.move_on.ensures ∙ ap (λ (s : Option Sight). drop 1 held ++ s ∷ []) sight)
     (c.lessened-self-inside.ensures
     ∙ ap (λ (n : ℕ). lessened least n) (c.beside.ensures ∙ ap (λ (ls : Levels). beside ls) levels))
     (c.hear-key.ensures.next ∙ ap (λ (s : Option Sight). hearer.next c.self.inside.hearing s) sees)

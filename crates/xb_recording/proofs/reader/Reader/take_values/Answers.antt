@@ -1,4 +1,4 @@
-use Rattle.std.proofs.Common.{◌≡◌, ℕ, List, ◌++◌, ◌-◌, Option, ap, drop, length, take, subst, length-drop, arith, ◌∙◌}
+use Rattle.std.proofs.Common.{◌≡◌, ℕ, List, ◌++◌, ◌-◌, Option, ap, drop, length, take, subst, length-drop, arith, rules, ◌∙◌}
 use Rattle.std.proofs.lemmas.List.{take_all}
 use Rattle.std.proofs.lemmas.Result.{IfErr-weaker, err_from_is_err_and, on_ok_weaker}
 use Rattle.xb_recording.specs.declared.reader.Source.TheVariants as sources
@@ -16,8 +16,8 @@ use Rattle.xb_recording.proofs.RefusedLemmas.{bits_are_refused, head_is_refused,
 use Rattle.xb_recording.proofs.SaidLemmas.{head_then, takes_bits, takes_sound}
 use Rattle.xb_recording.proofs.reader.Reader.take_values.Goals as goal
 
-pub returns-in-Some-clause-said : goal.returns-in-Some-clause-said
-returns-in-Some-clause-said c =
+pub returns-in-Some : goal.returns-in-Some
+returns-in-Some c =
     let old = c.args.self.now in
     let bytes : List ℕ = c.args.bytes.now in
     let format = c.in-Some.format in
@@ -30,33 +30,30 @@ returns-in-Some-clause-said c =
     let taken = subst P c.in-Some.is c.in_ok-format-in-WavHead.ensures.taken in
     let rest : take (length bytes - count) (drop count bytes) ≡ drop count bytes =
     take_all (length bytes - count) (drop count bytes) (omega (arith, length-drop count bytes)) in
-    on_ok_weaker c.begin_sound.result
-    (λ (begun : TakesSamples format (record old { source = sources.WavHead after }) new (take (length bytes - count) (drop count bytes)) events).
-    λ text later k.
-    let Q : List ℕ → Type 0 = λ piece. WavSays old.wanted.now (format, piece ++ text) (events ++ later) in
-    head_then old.wanted.now old.source head after bytes text (format, count) (events ++ later) c.in-WavHead.is taken
-    (subst Q rest (begun text later k)))
-    c.begin_sound.ensures.said
-
-pub returns-in-Some-clause-refusals : goal.returns-in-Some-clause-refusals
-returns-in-Some-clause-refusals c =
-    let old = c.args.self.now in
-    let bytes : List ℕ = c.args.bytes.now in
-    let format = c.in-Some.format in
-    let count = c.in-Some.count in
-    let head = c.in-WavHead.head in
-    let after = c.take_head.new.head in
-    let new = c.begin_sound.new.self in
-    let P : Option (WavFormat × ℕ) → Type 0 = λ found. TakesHead head bytes found after in
-    let taken = subst P c.in-Some.is c.in_ok-format-in-WavHead.ensures.taken in
-    let rest : take (length bytes - count) (drop count bytes) ≡ drop count bytes =
-    take_all (length bytes - count) (drop count bytes) (omega (arith, length-drop count bytes)) in
-    on_ok_weaker c.begin_sound.result
-    (λ (keeps : KeepsSamples format (record old { source = sources.WavHead after }) new (take (length bytes - count) (drop count bytes))).
-    λ text refusal k.
-    let Q : List ℕ → Type 0 = λ piece. SamplesRefused old.wanted.now (format, piece ++ text) refusal in
-    samples_keep old head after bytes text (format, count) refusal c.in-WavHead.is taken (subst Q rest (keeps text refusal k)))
-    c.begin_sound.ensures.refusals
+    record {
+      said =
+          on_ok_weaker c.begin_sound.result
+          (λ (begun : TakesSamples format (record old { source = sources.WavHead after }) new (take (length bytes - count) (drop count bytes)) events).
+          λ text later k.
+          let Q : List ℕ → Type 0 = λ piece. WavSays old.wanted.now (format, piece ++ text) (events ++ later) in
+          head_then old.wanted.now old.source head after bytes text (format, count) (events ++ later) c.in-WavHead.is taken
+          (subst Q rest (begun text later k)))
+          c.begin_sound.ensures.said;
+      refusals =
+          on_ok_weaker c.begin_sound.result
+          (λ (keeps : KeepsSamples format (record old { source = sources.WavHead after }) new (take (length bytes - count) (drop count bytes))).
+          λ text refusal k.
+          let Q : List ℕ → Type 0 = λ piece. SamplesRefused old.wanted.now (format, piece ++ text) refusal in
+          samples_keep old head after bytes text (format, count) refusal c.in-WavHead.is taken (subst Q rest (keeps text refusal k)))
+          c.begin_sound.ensures.refusals;
+      refused =
+          IfErr-weaker c.begin_sound.result _ _
+          (λ refusal refused.
+          let Q : List ℕ → Type 0 = λ piece. RefusesSamples format old piece refusal in
+          samples_are_refused old head after bytes (format, count) refusal c.in-WavHead.is taken (subst Q rest refused))
+          c.begin_sound.ensures.refused;
+      form = search rules;
+    }
 
 -- what two clauses say of a step that is taken
 both : {T E : Type 0} (P Q : Type 0) (result : Outcome T E) → OnOk result P → OnOk result Q → OnOk result (P × Q)
@@ -114,24 +111,6 @@ returns-in-Sound-clause-refusals c =
     (λ (faults : (text : List ℕ) → sound_fault after text ≡ sound_fault sound (bytes ++ text)).
     keeps_sound c.args.self.now sound after bytes c.in-Sound.is faults)
     c.take-in-Sound.ensures.faults
-
-pub returns-in-Some-clause-refused : goal.returns-in-Some-clause-refused
-returns-in-Some-clause-refused c =
-    let old = c.args.self.now in
-    let bytes : List ℕ = c.args.bytes.now in
-    let format = c.in-Some.format in
-    let count = c.in-Some.count in
-    let head = c.in-WavHead.head in
-    let after = c.take_head.new.head in
-    let P : Option (WavFormat × ℕ) → Type 0 = λ found. TakesHead head bytes found after in
-    let taken = subst P c.in-Some.is c.in_ok-format-in-WavHead.ensures.taken in
-    let rest : take (length bytes - count) (drop count bytes) ≡ drop count bytes =
-    take_all (length bytes - count) (drop count bytes) (omega (arith, length-drop count bytes)) in
-    IfErr-weaker c.begin_sound.result _ _
-    (λ refusal refused.
-    let Q : List ℕ → Type 0 = λ piece. RefusesSamples format old piece refusal in
-    samples_are_refused old head after bytes (format, count) refusal c.in-WavHead.is taken (subst Q rest refused))
-    c.begin_sound.ensures.refused
 
 pub returns-in_err-format-in-WavHead-clause-refused : goal.returns-in_err-format-in-WavHead-clause-refused
 returns-in_err-format-in-WavHead-clause-refused c =

@@ -11,18 +11,13 @@ use Rattle.xb_replay.proofs.replay.Replay.turn_register.Goals as goal
 pub invariant_of-self : goal.invariant_of-self
 invariant_of-self c =
     let i = c.self.inside in
-    let a = c.look.ensures in
-    let b = c.look-2.ensures in
-    let t = c.turn-turn.ensures in
-    let d = c.look-3.ensures in
-    let e = c.look-4.ensures in
     world-register _ c.self.invariant c.look-4.new.up c.look-4.new.self c.look-3.new.self
-    (output-on i.chain.pulse c.look.new.up c.look-4.new.up (a.up.0, a.up.1.1) (e.up.0, e.up.1.1))
-    (one-ring _ _ e.ring)
-    (mid-ring c.look-3.new.up c.look-4.new.self c.look-3.new.self.consumer e.rest (one-ring _ _ d.ring))
-    (mid-stage i.chain.register c.look.new.self c.look-2.new.up c.turn-turn.new.self c.look-3.new.up c.look-4.new.self a.rest b.up.0 t.ends.0 d.up.0 e.rest)
-    e.lawful
-    (input-on i.chain.translate c.look-2.new.self c.look-3.new.self (b.rest, b.consumer.1) (d.rest, d.consumer.1))
+    (output-on i.chain.pulse c.look.new.up c.look-4.new.up (c.look.ensures.up.0, c.look.ensures.up.1.1) (c.look-4.ensures.up.0, c.look-4.ensures.up.1.1))
+    (one-ring _ _ c.look-4.ensures.ring)
+    (mid-ring c.look-3.new.up c.look-4.new.self c.look-3.new.self.consumer c.look-4.ensures.rest (one-ring _ _ c.look-3.ensures.ring))
+    (mid-stage i.chain.register c.look.new.self c.look-2.new.up c.turn-turn.new.self c.look-3.new.up c.look-4.new.self c.look.ensures.rest c.look-2.ensures.up.0 c.turn-turn.ensures.ends.0 c.look-3.ensures.up.0 c.look-4.ensures.rest)
+    c.look-4.ensures.lawful
+    (input-on i.chain.translate c.look-2.new.self c.look-3.new.self (c.look-2.ensures.rest, c.look-2.ensures.consumer.1) (c.look-3.ensures.rest, c.look-3.ensures.consumer.1))
 
 pub returns-clause-lawful : goal.returns-clause-lawful
 returns-clause-lawful c = invariant_of-self c
@@ -30,22 +25,17 @@ returns-clause-lawful c = invariant_of-self c
 pub returns-clause-turned : goal.returns-clause-turned
 returns-clause-turned c =
     let i = c.self.inside in
-    let a = c.look.ensures in
-    let b = c.look-2.ensures in
-    let t = c.turn-turn.ensures in
-    let d = c.look-3.ensures in
-    let e = c.look-4.ensures in
-    let ended = ended-same c.turn-turn.result Ended (sent i.chain.register.producer) (sent c.look-2.new.up.producer) (b.up.1.1 ∙ ap (λ x. sent x.producer) a.rest) t.ended in
+    let ended = ended-same c.turn-turn.result Ended (sent i.chain.register.producer) (sent c.look-2.new.up.producer) (c.look-2.ensures.up.1.1 ∙ ap (λ x. sent x.producer) c.look.ensures.rest) c.turn-turn.ensures.ended in
     rw (← c.self.view_is) (has-turned _ _ posts.Register c.turn-turn.result (record { rows = refl; table = refl; senders = refl })
     (station-turned i.chain.pulse.producer c.look.new.up.producer c.look-4.new.up.producer i.chain.register c.look.new.self c.look-2.new.up c.turn-turn.new.self c.look-3.new.up c.look-4.new.self
-    (a.rest, a.consumer.1) (one-ring _ _ a.ring) a.up.1.1 (b.up.0, b.up.1) (d.up.0, d.up.1.1) (e.rest, e.consumer.1) (one-ring _ _ e.ring) (e.up.1.1 ∙ a.up.1.1)
-    c.turn-turn.result t.event ended)
+    (c.look.ensures.rest, c.look.ensures.consumer.1) (one-ring _ _ c.look.ensures.ring) c.look.ensures.up.1.1 (c.look-2.ensures.up.0, c.look-2.ensures.up.1) (c.look-3.ensures.up.0, c.look-3.ensures.up.1.1) (c.look-4.ensures.rest, c.look-4.ensures.consumer.1) (one-ring _ _ c.look-4.ensures.ring) (c.look-4.ensures.up.1.1 ∙ c.look.ensures.up.1.1)
+    c.turn-turn.result c.turn-turn.ensures.event ended)
     ended
     (record {
       feed = λ n. (refl, refl);
-      pulse = λ n. output-stays i.chain.pulse c.look-4.new.up (output-on i.chain.pulse c.look.new.up c.look-4.new.up (a.up.0, a.up.1.1) (e.up.0, e.up.1.1));
+      pulse = λ n. output-stays i.chain.pulse c.look-4.new.up (output-on i.chain.pulse c.look.new.up c.look-4.new.up (c.look.ensures.up.0, c.look.ensures.up.1.1) (c.look-4.ensures.up.0, c.look-4.ensures.up.1.1));
       register = λ n. absurd (n refl);
-      translate = λ n. input-stays i.chain.translate c.look-3.new.self (input-on i.chain.translate c.look-2.new.self c.look-3.new.self (b.rest, b.consumer.1) (d.rest, d.consumer.1));
+      translate = λ n. input-stays i.chain.translate c.look-3.new.self (input-on i.chain.translate c.look-2.new.self c.look-3.new.self (c.look-2.ensures.rest, c.look-2.ensures.consumer.1) (c.look-3.ensures.rest, c.look-3.ensures.consumer.1));
       deal = λ n. (refl, (refl, λ j p h. refl), refl, refl);
       senders = λ j s n h. (refl, refl, refl);
       gather = λ n. (refl, refl, refl, refl);

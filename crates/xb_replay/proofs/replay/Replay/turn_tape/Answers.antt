@@ -11,10 +11,8 @@ use Rattle.xb_replay.proofs.replay.Replay.turn_tape.Goals as goal
 pub invariant_of-self : goal.invariant_of-self
 invariant_of-self c =
     let i = c.self.inside in
-    let e = c.look.ensures in
-    let f = c.look-2.ensures in
-    world-tape _ c.self.invariant c.look-2.new.up c.look-2.new.self (gather-on i.chain.gather c.look.new.up c.look-2.new.up e.up.0 f.up.0) f.up.2 (one-ring _ _ f.ring) f.lawful
-    (tape-kept i.chain.tape c.look.new.self c.turn-turn.new.self c.look-2.new.self e.rest f.rest c.turn-turn.result c.turn-turn.ensures.event c.self.invariant.stages.lost)
+    world-tape _ c.self.invariant c.look-2.new.up c.look-2.new.self (gather-on i.chain.gather c.look.new.up c.look-2.new.up c.look.ensures.up.0 c.look-2.ensures.up.0) c.look-2.ensures.up.2 (one-ring _ _ c.look-2.ensures.ring) c.look-2.ensures.lawful
+    (tape-kept i.chain.tape c.look.new.self c.turn-turn.new.self c.look-2.new.self c.look.ensures.rest c.look-2.ensures.rest c.turn-turn.result c.turn-turn.ensures.event c.self.invariant.stages.lost)
 
 pub returns-clause-lawful : goal.returns-clause-lawful
 returns-clause-lawful c = invariant_of-self c
@@ -22,29 +20,25 @@ returns-clause-lawful c = invariant_of-self c
 pub returns-clause-turned : goal.returns-clause-turned
 returns-clause-turned c =
     let i = c.self.inside in
-    let e = c.look.ensures in
-    let f = c.look-2.ensures in
     let ended = tape-ended i.chain.gather.producer c.look.new.up.producer c.look-2.new.up.producer i.chain.tape c.look.new.self c.turn-turn.new.self c.look-2.new.self
-    (e.rest, e.consumer) (one-ring _ _ e.ring) e.up.1.1 (f.rest, f.consumer) (one-ring _ _ f.ring) (f.up.1.1 ∙ e.up.1.1) c.turn-turn.result c.turn-turn.ensures.ended in
-    let same = gather-on i.chain.gather c.look.new.up c.look-2.new.up e.up.0 f.up.0 in
+    (c.look.ensures.rest, c.look.ensures.consumer) (one-ring _ _ c.look.ensures.ring) c.look.ensures.up.1.1 (c.look-2.ensures.rest, c.look-2.ensures.consumer) (one-ring _ _ c.look-2.ensures.ring) (c.look-2.ensures.up.1.1 ∙ c.look.ensures.up.1.1) c.turn-turn.result c.turn-turn.ensures.ended in
+    let same = gather-on i.chain.gather c.look.new.up c.look-2.new.up c.look.ensures.up.0 c.look-2.ensures.up.0 in
     rw (← c.self.view_is) (tape-has-turned _ _ (record { rows = refl; table = refl; senders = refl })
     (tape-others (posts_of i.chain) c.look-2.new.up c.look-2.new.self
-    (ap (λ x. map received x.consumers) same, f.up.1.1 ∙ e.up.1.1, ap (λ x. x.held) same, ap (λ x. x.place) same))
+    (ap (λ x. map received x.consumers) same, c.look-2.ensures.up.1.1 ∙ c.look.ensures.up.1.1, ap (λ x. x.held) same, ap (λ x. x.place) same))
     c.turn-turn.result ended
     (tape-turned i.chain.gather.producer c.look.new.up.producer c.look-2.new.up.producer i.chain.tape c.look.new.self c.turn-turn.new.self c.look-2.new.self
-    (e.rest, e.consumer) (one-ring _ _ e.ring) e.up.1.1 (f.rest, f.consumer) (one-ring _ _ f.ring) (f.up.1.1 ∙ e.up.1.1) c.turn-turn.result c.turn-turn.ensures.event ended))
+    (c.look.ensures.rest, c.look.ensures.consumer) (one-ring _ _ c.look.ensures.ring) c.look.ensures.up.1.1 (c.look-2.ensures.rest, c.look-2.ensures.consumer) (one-ring _ _ c.look-2.ensures.ring) (c.look-2.ensures.up.1.1 ∙ c.look.ensures.up.1.1) c.turn-turn.result c.turn-turn.ensures.event ended))
 
 pub returns-clause-refused : goal.returns-clause-refused
 returns-clause-refused c =
     let i = c.self.inside in
-    let e = c.look.ensures in
-    let f = c.look-2.ensures in
     let ended = tape-ended i.chain.gather.producer c.look.new.up.producer c.look-2.new.up.producer i.chain.tape c.look.new.self c.turn-turn.new.self c.look-2.new.self
-    (e.rest, e.consumer) (one-ring _ _ e.ring) e.up.1.1 (f.rest, f.consumer) (one-ring _ _ f.ring) (f.up.1.1 ∙ e.up.1.1) c.turn-turn.result c.turn-turn.ensures.ended in
-    let same = gather-on i.chain.gather c.look.new.up c.look-2.new.up e.up.0 f.up.0 in
+    (c.look.ensures.rest, c.look.ensures.consumer) (one-ring _ _ c.look.ensures.ring) c.look.ensures.up.1.1 (c.look-2.ensures.rest, c.look-2.ensures.consumer) (one-ring _ _ c.look-2.ensures.ring) (c.look-2.ensures.up.1.1 ∙ c.look.ensures.up.1.1) c.turn-turn.result c.turn-turn.ensures.ended in
+    let same = gather-on i.chain.gather c.look.new.up c.look-2.new.up c.look.ensures.up.0 c.look-2.ensures.up.0 in
     rw (← c.self.view_is) (tape-has-refused _ _ (record { rows = refl; table = refl; senders = refl })
     (tape-others (posts_of i.chain) c.look-2.new.up c.look-2.new.self
-    (ap (λ x. map received x.consumers) same, f.up.1.1 ∙ e.up.1.1, ap (λ x. x.held) same, ap (λ x. x.place) same))
+    (ap (λ x. map received x.consumers) same, c.look-2.ensures.up.1.1 ∙ c.look.ensures.up.1.1, ap (λ x. x.held) same, ap (λ x. x.place) same))
     c.turn-turn.result ended
     (tape-refused i.chain.gather.producer c.look.new.up.producer c.look-2.new.up.producer i.chain.tape c.look.new.self c.turn-turn.new.self c.look-2.new.self
-    (e.rest, e.consumer) (one-ring _ _ e.ring) e.up.1.1 (f.rest, f.consumer) (one-ring _ _ f.ring) (f.up.1.1 ∙ e.up.1.1) c.turn-turn.result c.turn-turn.ensures.event))
+    (c.look.ensures.rest, c.look.ensures.consumer) (one-ring _ _ c.look.ensures.ring) c.look.ensures.up.1.1 (c.look-2.ensures.rest, c.look-2.ensures.consumer) (one-ring _ _ c.look-2.ensures.ring) (c.look-2.ensures.up.1.1 ∙ c.look.ensures.up.1.1) c.turn-turn.result c.turn-turn.ensures.event))

@@ -43,12 +43,11 @@ returns-in-Long-2 g c =
     let s = c.args.self.now.state in
     let old = bytes_left g.R.Read.remaining c.args.self.now.bytes in
     let first = c.take_field.new in
-    let one = bytes_left g.R.Read.remaining first.bytes in
     let second = c.take_field-2.new in
     let two = bytes_left g.R.Read.remaining second.bytes in
     rw c.clear-2.ensures
     (takes-judged s second.state (Some (first.field.items, second.field.items, [])) old two
-    (both-known old one two (TakesField s first.state first.field.items end.Comma)
+    (both-known old (bytes_left g.R.Read.remaining first.bytes) two (TakesField s first.state first.field.items end.Comma)
     (TakesField first.state second.state second.field.items end.Long)
     (IsJudged s second.state (Some (first.field.items, second.field.items, [])))
     (rw c.in-Comma.is at c.in_ok-take_field.ensures.field) (rw c.in-Long-2.is at c.in_ok-take_field-2.ensures.field)
@@ -59,11 +58,10 @@ returns-in_default g c =
     let s = c.args.self.now.state in
     let old = bytes_left g.R.Read.remaining c.args.self.now.bytes in
     let first = c.take_field.new in
-    let one = bytes_left g.R.Read.remaining first.bytes in
     let second = c.take_field-2.new in
     let two = bytes_left g.R.Read.remaining second.bytes in
     takes-judged s second.state None old two
-    (both-known old one two (TakesField s first.state first.field.items end.Comma)
+    (both-known old (bytes_left g.R.Read.remaining first.bytes) two (TakesField s first.state first.field.items end.Comma)
     (TakesField first.state second.state second.field.items c.in_ok-take_field-2.field-0)
     (IsJudged s second.state None)
     (rw c.in-Comma.is at c.in_ok-take_field.ensures.field) c.in_ok-take_field-2.ensures.field
@@ -75,13 +73,12 @@ returns g c =
     let s = c.args.self.now.state in
     let old = bytes_left g.R.Read.remaining c.args.self.now.bytes in
     let first = c.take_field.new in
-    let one = bytes_left g.R.Read.remaining first.bytes in
     let second = c.take_field-2.new in
     let two = bytes_left g.R.Read.remaining second.bytes in
     let third = c.take_field-3.new in
     let three = bytes_left g.R.Read.remaining third.bytes in
     let kept = three_if (is_last c.in_ok-end.end) (first.field.items, second.field.items, third.field.items) in
-    let both = both-known old one two (TakesField s first.state first.field.items end.Comma)
+    let both = both-known old (bytes_left g.R.Read.remaining first.bytes) two (TakesField s first.state first.field.items end.Comma)
     (TakesField first.state second.state second.field.items end.Comma)
     (TakesTwo s second.state first.field.items second.field.items)
     (rw c.in-Comma.is at c.in_ok-take_field.ensures.field) (rw c.in-Comma-2.is at c.in_ok-take_field-2.ensures.field)

@@ -1,4 +1,4 @@
-use Rattle.std.proofs.Common.{◌≡◌, ◌∙◌, List, ap, refl, string_bytes, sym}
+use Rattle.std.proofs.Common.{◌≡◌, ◌∙◌, List, ap, string_bytes, sym}
 use Rattle.xb_measured.specs.declared.heard.Heard.{Heard}
 use Rattle.xb_rx.specs.declared.begun.Step.{Step}
 use Rattle.xb_rx.specs.Begun.{step_of}
@@ -15,7 +15,7 @@ by-step passed begun key result step same is known =
 pub returns-in-Keeps-clause-text : goal.returns-in-Keeps-clause-text
 returns-in-Keeps-clause-text c =
     keeps-shown c.keep.result (shown c.args.self.now) (shown c.keep.new.self) c.args.key c.requires.begun
-    (string_bytes c.args.out.now) (string_bytes c.args.out.now) refl c.keep.ensures.kept
+    (string_bytes c.args.out.now) (string_bytes c.args.out.now) c.keep.ensures.kept
 
 pub returns-in-Keeps-clause-begun : goal.returns-in-Keeps-clause-begun
 returns-in-Keeps-clause-begun c =

@@ -14,9 +14,8 @@ returns-clause-begun c =
 pub returns-clause-said : goal.returns-clause-said
 returns-clause-said c =
     sound_begun c.args.rate (wires_of c.args.channels (texts c.args.names.now)) c.in_ok-wires.wires.items
-    c.deref.result.now c.args.events.now.items c.say_rate.new.events.items c.say.new.events.items
-    c.say_levels.new.events.items c.in_ok-wires.ensures.said c.in_ok-say_rate.ensures.said c.in_ok-say.ensures.said
-    c.deref.ensures.value c.in_ok-say_levels.ensures.said
+    c.args.events.now.items c.say_rate.new.events.items c.say.new.events.items c.in_ok-wires.ensures.said
+    c.in_ok-say_rate.ensures.said c.in_ok-say.ensures.said
 
 pub returns-in_err-wires-clause-refused : goal.returns-in_err-wires-clause-refused
 returns-in_err-wires-clause-refused c =

@@ -11,6 +11,13 @@ use Rattle.xb_vcd.proofs.WordLemmas.{blank_refused, refused_after_blank, refused
 use Rattle.xb_vcd.proofs.vcd.Vcd.take_words.Goals as goal
 use Rattle.xb_vcd.proofs.vcd.Vcd.take_words.Goals.{then-is_blank+in_ok-take_piece, else-is_blank}
 
+-- at the end of a line the last word is what is left
+last-word : (line : List ℕ) (start end : ℕ) → end ≡ length line
+    → words_in (slice_range line start end) (drop end line) ≡ word_before (slice_range line start (length line))
+last-word line start end all =
+    ap (λ (n : ℕ). words_in (slice_range line start n) (drop n line)) all ∙ words_at_end line start
+    ∙ ap word_before (sym (all_left line start))
+
 pub loop-end-preserved : goal.loop-end-preserved
 loop-end-preserved c =
     elim c.if-is_blank.branch [
@@ -71,10 +78,7 @@ pub returns-clause-refused : goal.returns-clause-refused
 returns-clause-refused c =
     let line : List ℕ = c.args.line.now in
     let all : c.loop-end.end ≡ length line = omega (arith, c.loop-end-test.false, c.loop-end.auto.end-end) in
-    let last : words_in (slice_range line c.loop-end.start c.loop-end.end) (drop c.loop-end.end line)
-    ≡ word_before (slice_range line c.loop-end.start (length line)) =
-    ap (λ n. words_in (slice_range line c.loop-end.start n) (drop n line)) all ∙ words_at_end line c.loop-end.start
-    ∙ ap word_before (sym (all_left line c.loop-end.start)) in
+    let last = last-word line c.loop-end.start c.loop-end.end all in
     IfErr-weaker c.take_piece-2.result _ _
     (λ refusal refused other. c.loop-end.invariant.refused refusal
     (ap (all_say word_says (vcd_state c.loop-end.self)) last ∙ refused other))
@@ -84,10 +88,7 @@ pub returns-clause-memory : goal.returns-clause-memory
 returns-clause-memory c =
     let line : List ℕ = c.args.line.now in
     let all : c.loop-end.end ≡ length line = omega (arith, c.loop-end-test.false, c.loop-end.auto.end-end) in
-    let last : words_in (slice_range line c.loop-end.start c.loop-end.end) (drop c.loop-end.end line)
-    ≡ word_before (slice_range line c.loop-end.start (length line)) =
-    ap (λ n. words_in (slice_range line c.loop-end.start n) (drop n line)) all ∙ words_at_end line c.loop-end.start
-    ∙ ap word_before (sym (all_left line c.loop-end.start)) in
+    let last = last-word line c.loop-end.start c.loop-end.end all in
     IfErr-weaker c.take_piece-2.result _ _
     (λ refusal memory is. c.loop-end.invariant.memory
     (subst (SayAnEvent (vcd_state c.loop-end.self)) (sym last) (memory is)))

@@ -1,5 +1,0 @@
-use Rattle.xb_join.proofs.AcceptedPages.{joined_parts_are_whole}
-use Rattle.xb_join.proofs.laws.joined_parts_are_whole.Goals as goal
-
-pub returns : goal.returns
-returns c = joined_parts_are_whole

@@ -1,7 +1,0 @@
-use Rattle.std.proofs.Common.{◌≡◌, ◌++◌, drop}
-use Rattle.xb_samples.specs.Sounds.{levels_said}
-use Rattle.xb_samples.proofs.sound.say_levels.Given as goal
-
-abbrev pub invariant-loop-i : goal.invariant-loop-i
-invariant-loop-i l =
-    l.events.items ++ levels_said l.i (drop l.i l.wires) ≡ l.initial.events.items ++ levels_said 0 l.wires

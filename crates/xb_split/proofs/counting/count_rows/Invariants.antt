@@ -1,5 +1,0 @@
-use Rattle.xb_split.specs.RowStreams.{AreCounted}
-use Rattle.xb_split.proofs.counting.count_rows.Given as goal
-
-abbrev pub invariant-loop : goal.invariant-loop
-invariant-loop g l = AreCounted l.counter l.initial.rows l.rows l.loads

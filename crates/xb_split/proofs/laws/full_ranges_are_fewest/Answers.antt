@@ -1,5 +1,0 @@
-use Rattle.xb_split.proofs.FewestRanges.{full_ranges_are_fewest}
-use Rattle.xb_split.proofs.laws.full_ranges_are_fewest.Goals as goal
-
-pub returns : goal.returns
-returns c = full_ranges_are_fewest

@@ -1,4 +1,0 @@
-use Rattle.xb_split.proofs.splitting.plan_deck.Goals as goal
-
-pub returns-in-Err-clause-fault : goal.returns-in-Err-clause-fault
-returns-in-Err-clause-fault g c = c.in-Err.ensures.fault c.args.parts
