@@ -14,7 +14,7 @@ use Rattle.xb_supervision.specs.declared.change.Lead.TheVariants.{M, E}
 use Rattle.xb_supervision.specs.declared.supervision.Supervision.{Supervision}
 use Rattle.xb_supervision.specs.Calls.{has_ended, is_over, is_over_since}
 use Rattle.xb_supervision.specs.Certain.{Begins, ToldIsCertain}
-use Rattle.xb_supervision.specs.Leads.{hook_of, is_old, same_hook, same_lead, turned}
+use Rattle.xb_supervision.specs.Leads.{hook_of, same_hook, same_lead, turned}
 use Rattle.xb_supervision.specs.Machine.{opened, trunk_after, with_calling, with_change}
 use Rattle.xb_supervision.proofs.Told.{all-told, told_from, turn}
 

@@ -14,11 +14,10 @@ use Rattle.xb_supervision.specs.declared.call.Start.TheVariants.{Wink, DelayDial
 use Rattle.xb_supervision.specs.declared.change.Change.{Change}
 use Rattle.xb_supervision.specs.declared.change.Hook.{Hook}
 use Rattle.xb_supervision.specs.declared.change.Hook.TheVariants.{On, Off}
-use Rattle.xb_supervision.specs.declared.change.Hooks.{Hooks}
 use Rattle.xb_supervision.specs.declared.change.Lead.{Lead}
 use Rattle.xb_supervision.specs.declared.change.Lead.TheVariants.{M, E}
 use Rattle.xb_supervision.specs.declared.supervision.Supervision.{Supervision}
-use Rattle.xb_supervision.specs.Calls.{call_by, call_of, calls_after, first_of, has_signal, is_over, last_of, lasting, lasting_from, on_hook_since, second_of, since_by, story_of}
+use Rattle.xb_supervision.specs.Calls.{call_by, call_of, calls_after, first_of, has_signal, is_over, last_of, lasting_from, on_hook_since, second_of, since_by, story_of}
 use Rattle.xb_supervision.specs.Leads.{is_old, is_turn, news_from, news_of, other, same_hook, same_lead, times_of, turned}
 use Rattle.xb_supervision.specs.Machine.{HasTaken, call_with, heard, idle, machine, next, opened, outs, over_at, seized_by, told_by, trunk_after, with_called, with_calling, with_change}
 

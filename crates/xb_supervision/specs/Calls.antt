@@ -7,7 +7,6 @@ use Rattle.xb_supervision.specs.declared.call.State.{State}
 use Rattle.xb_supervision.specs.declared.call.State.TheVariants.{Idle, Seized, Starting, Ready, Answered, HungUp, OnHook}
 use Rattle.xb_supervision.specs.declared.call.TheConstants.{DISCONNECT_MS}
 use Rattle.xb_supervision.specs.declared.change.Change.{Change}
-use Rattle.xb_supervision.specs.declared.change.Hook.{Hook}
 use Rattle.xb_supervision.specs.declared.change.Hook.TheVariants.{On, Off}
 use Rattle.xb_supervision.specs.declared.change.Lead.{Lead}
 use Rattle.xb_supervision.specs.Leads.{news_of, other, same_hook, same_lead, times_of}

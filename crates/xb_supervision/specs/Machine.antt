@@ -1,5 +1,5 @@
 -- Supervision, change by change.
-use Rattle.std.specs.Prelude.{◌≡◌, ℕ, List, [], ◌∷◌, ◌++◌, fold, Bool, true, false, ◌&&◌, if◌then◌else◌, Option, Some, None, is_none}
+use Rattle.std.specs.Prelude.{◌≡◌, ℕ, List, [], fold, Bool, ◌&&◌, if◌then◌else◌, Option, Some, None, is_none}
 use Rattle.std.specs.Option.{option_to_list}
 use Rattle.xb_model.specs.Image.{Machine, image_on}
 use Rattle.xb_supervision.specs.declared.call.Call.{Call}
