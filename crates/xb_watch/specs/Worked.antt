@@ -1,6 +1,5 @@
 -- Blocks of calls, written by hand.
-use Rattle.std.specs.Prelude.{◌≡◌, ℕ, [], ◌∷◌, ◌++◌, codes, Option, Some, None}
-use Rattle.xb_supervision.specs.declared.call.Call.{Call}
+use Rattle.std.specs.Prelude.{◌≡◌, [], ◌∷◌, ◌++◌, codes, Some, None}
 use Rattle.xb_supervision.specs.declared.call.Start.TheVariants.{Wink, Immediate}
 use Rattle.xb_supervision.specs.declared.change.Lead.TheVariants.{M, E}
 use Rattle.xb_supervision.specs.Worked.{call}
