@@ -1,8 +1,10 @@
 // The same office on one thread: no ring, no thread, and nothing to wait for.
 ghost use Rattle.std.specs.Prelude.{◌≡◌, IfErr, IfOk, Ok};
+ghost use Rattle.xb_command.specs.Programs.{streams};
+ghost use Rattle.xb_command.specs.Works.{Runs};
 ghost use Rattle.xb_deck.specs.Contents.{with_rows};
 ghost use Rattle.xb_office.specs.DeckPage.{Delivers, IsFaultOfDeck, Reads, says};
-ghost use Rattle.xb_office.specs.Program.{by_bank};
+ghost use Rattle.xb_office.specs.Program.{HasFault, WritesPage, by_bank};
 ghost use Rattle.xb_office.specs.Serial.{IsFaultOf, page_in, page_or_fault};
 ghost use Rattle.xb_rows.specs.RowTexts.{fault_of_text, rows_of_text};
 
@@ -13,7 +15,8 @@ use crate::words::{said_by, sizes_of};
 use std::alloc::Global;
 use std::io::{Read, Write};
 use xb_command::{
-    Answer, Call, DONE, Files, Given, NOTHING, Source, Words, Work, tell_fault, text_source,
+    Answer, Call, DONE, Files, Given, NOTHING, Program, Source, Words, Work, tell_fault,
+    text_source,
 };
 use xb_deck::{Deck, DeckFault, MOST_DECK_BYTES, read_deck};
 use xb_routes::RouteTable;
@@ -70,6 +73,24 @@ pub fn operate_serial<R: Read, W: Write>(
     Ok(())
 }
 
+// Writes the page of a deck, or a line of its fault, and returns the status.
+fn work_serial<R: Read, W: Write, E: Write>(
+    alloc: Global,
+    program: &Program<'_>,
+    deck: &mut R,
+    out: &mut W,
+    err: &mut E,
+) -> u8
+    ensures { Runs WritesPage (HasFault program.now.name.now)
+        (streams (R.remaining deck.old) (W.contents out.old) (E.contents err.old))
+        (streams (R.remaining deck.new) (W.contents out.new) (E.contents err.new)) result }
+{
+    match operate_serial(alloc, deck, out) {
+        Ok(()) => DONE,
+        Err(fault) => tell_fault(alloc, err, program.name, fault),
+    }
+}
+
 // What `attend_call` does, on one thread: the words choose sizes of what is not there, and the page is the same.
 impl<'a> Work<'a> for Asked<'a> {
     ghost use Rattle.xb_office.specs.Program.{by_bank};
@@ -100,9 +121,6 @@ impl<'a> Work<'a> for Asked<'a> {
             program,
             ..
         } = given;
-        match operate_serial(alloc, input, out) {
-            Ok(()) => DONE,
-            Err(fault) => tell_fault(alloc, err, program.name, fault),
-        }
+        work_serial(alloc, program, input, out, err)
     }
 }
