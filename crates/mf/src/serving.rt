@@ -1,12 +1,11 @@
 // How a command line is served.
-ghost use Rattle.std.specs.Prelude.{◌≡◌, true, IfOk, OnErr};
+ghost use Rattle.std.specs.Prelude.{◌≡◌, true, IfOk, OnErr, codes};
 ghost use Rattle.std.specs.Process.{exit_status};
 ghost use Rattle.clap.specs.Faults.{is_simple_and_free};
 ghost use Rattle.xb_command.specs.Tables.{command_by};
-ghost use Rattle.xb_process.specs.Processes.{Attends, Serves};
+ghost use Rattle.xb_process.specs.Processes.{Attends};
 ghost use Rattle.xb_rx.specs.Program.{by_rx};
-ghost use Rattle.xb_rx.specs.declared.words.TheConstants.{PROGRAM as RX};
-ghost use Rattle.mf.specs.Serving.{AttendsToParts, ServesBy, ServesLine, ServesParts};
+ghost use Rattle.mf.specs.Serving.{AttendsToParts, ServesAs, ServesBy, ServesLine, ServesParts};
 
 use crate::choice::{Choice, after_first, drop_first, first_program};
 use crate::none::{Nothing, PROGRAM};
@@ -35,7 +34,7 @@ fn attend_by_buffer<'a, Q: Work<'a>, W: Write, E: Write>(
 
 // Serves words by `mfrx`, which reads sample by sample.
 fn serve_rx(rt: &HostRuntime, words: &io::Result<Vec<String>>) -> ExitCode
-    ensures { IfOk words.now (λ these. Serves by_rx RX these.items (exit_status result)) }
+    ensures { IfOk words.now (λ these. ServesAs by_rx (codes "mfrx") these.items (exit_status result)) }
 {
     serve_by(
         rt,
@@ -45,6 +44,30 @@ fn serve_rx(rt: &HostRuntime, words: &io::Result<Vec<String>>) -> ExitCode
             requires { is_simple_and_free (command_by call.now.program.now) ≡ true }
             ensures { Attends by_rx call.now result }
         { attend_by_buffer::<xb_rx::Asked<'_>, _, _>(rt, call, out, err) },
+    )
+}
+
+// Attends to a call of `mfoffice`, with the folders and the files of the system.
+fn attend_to_parts<'a, W: Write, E: Write>(
+    rt: &HostRuntime,
+    call: &Call<'a>,
+    out: &mut W,
+    err: &mut E,
+) -> u8
+    requires { is_simple_and_free (command_by call.now.program.now) ≡ true }
+    ensures { AttendsToParts call.now result }
+{
+    let (mut folders, files) = (SystemFiles { rt }, SystemFiles { rt });
+    xb_parts::attend(
+        rt.alloc(),
+        call,
+        &SPLIT_PROGRAM,
+        &JOIN_PROGRAM,
+        &mut folders,
+        &files,
+        &mut rt.stdin(),
+        out,
+        err,
     )
 }
 
@@ -59,20 +82,7 @@ fn serve_parts(rt: &HostRuntime, words: &io::Result<Vec<String>>) -> ExitCode
         |call, out, err| -> u8
             requires { is_simple_and_free (command_by call.now.program.now) ≡ true }
             ensures { AttendsToParts call.now result }
-        {
-            let (mut folders, files) = (SystemFiles { rt }, SystemFiles { rt });
-            xb_parts::attend(
-                rt.alloc(),
-                call,
-                &SPLIT_PROGRAM,
-                &JOIN_PROGRAM,
-                &mut folders,
-                &files,
-                &mut rt.stdin(),
-                out,
-                err,
-            )
-        },
+        { attend_to_parts(rt, call, out, err) },
     )
 }
 

@@ -1,13 +1,9 @@
-use Rattle.std.proofs.Common.{◌≡◌, ℕ, ◌<◌, ap, ◌∙◌, sym, subst}
-use Rattle.xb_model.specs.declared.line.TheConstants.{LINES}
+use Rattle.std.proofs.Common.{◌≡◌, subst}
 use Rattle.xb_model.specs.LawfulLimits.{IsLawful}
-use Rattle.xb_model.specs.Records.{rows_of}
-use Rattle.xb_model.specs.Tapes.{joined_tape, tapes_of}
-use Rattle.xb_model.specs.OnLines.{on_line}
 use Rattle.xb_routes.specs.Table.{Table}
 use Rattle.xb_rows.specs.RowTexts.{rows_of_text}
 use Rattle.xb_images.specs.Images.{closed_rows, serial_image}
-use Rattle.xb_images.proofs.Chain.{chain, chain-closed}
+use Rattle.xb_images.proofs.Chain.{chain-closed}
 use Rattle.xb_images.proofs.LineTapes.{tapes-made}
 use Rattle.xb_office.proofs.taping.tapes_of_text.Goals as goal
 

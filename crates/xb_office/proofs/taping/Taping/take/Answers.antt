@@ -1,4 +1,4 @@
-use Rattle.std.proofs.Common.{◌++◌, ap, ◌∙◌, subst}
+use Rattle.std.proofs.Common.{◌++◌, ◌∙◌, subst}
 use Rattle.std.proofs.lemmas.Result.{on_ok_weaker}
 use Rattle.xb_tape.specs.GatheredMarks.{AreTapes}
 use Rattle.xb_office.proofs.taping.Taping.take.Goals as goal
