@@ -35,7 +35,7 @@ refusal_text (refusal.Quiet threshold) =
     codes "the sound is too quiet for the threshold: give --threshold " ++ decimal threshold
 refusal_text refusal.Silent = codes "the sound is too quiet for any threshold: record it louder"
 refusal_text refusal.Blank = codes "it is empty"
-refusal_text refusal.Deck = codes "this is a deck or a part of one, and no recording: mfhear takes a deck"
+refusal_text refusal.Deck = codes "this is a deck or a part of one, and no recording: mfhear takes one, without --wire"
 refusal_text refusal.Form =
     codes "no form begins so: leave out a header of your own, write commas for semicolons, or give --format"
 refusal_text refusal.TooLong = codes "a line has to end within 65536 bytes"

@@ -142,7 +142,7 @@ impl fmt::Display for Refusal {
             ),
             Refusal::Blank => f.write_str("it is empty"),
             Refusal::Deck => f.write_str(
-                "this is a deck or a part of one, and no recording: mfhear takes a deck",
+                "this is a deck or a part of one, and no recording: mfhear takes one, without --wire",
             ),
             Refusal::Form => f.write_str(
                 "no form begins so: leave out a header of your own, write commas for semicolons, or give --format",
