@@ -9,7 +9,6 @@ use Rattle.std.proofs.lemmas.Bool.{eqb-false, eqb-true, le-leb, lt-leb, ltb-fals
 use Rattle.std.specs.List.{starts_with}
 use Rattle.std.proofs.lemmas.List.{drop_all, length-take-le, take-append-le, take_all}
 use Rattle.xb_contact.specs.declared.event.Refusal.{Refusal}
-use Rattle.xb_contact.specs.declared.event.Refusal.TheVariants as refusals
 use Rattle.xb_recording.specs.declared.beginning.Told.{Told}
 use Rattle.xb_recording.specs.declared.beginning.Told.TheVariants as tolds
 use Rattle.xb_recording.specs.declared.format.Format.{Format}

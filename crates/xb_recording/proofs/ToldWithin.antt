@@ -1,6 +1,6 @@
 -- What is told by a beginning stays told.
 use Rattle.std.proofs.Common.{◌≡◌, ℕ, suc, ◌≤◌, List, [], ◌∷◌, ◌++◌, Bool, true, false, cond, not, codes, nat_eq, nat_lt, length, ne_eqb, refl, ap, sym, ◌∙◌, arith, append-nil, length-append, true≢false}
-use Rattle.std.proofs.lemmas.Bool.{and_parts, le-ltb, ltb-false}
+use Rattle.std.proofs.lemmas.Bool.{le-ltb, ltb-false}
 use Rattle.std.proofs.lemmas.List.{take-append-le}
 use Rattle.std.specs.Prelude.{◌==◌, ◌&&◌, ◌||◌}
 use Rattle.std.specs.Cmp.Lexicographic.{pointwise}

@@ -1,6 +1,6 @@
 -- The first wire that a VCD does not declare.
 use Rattle.std.proofs.Common.{◌≡◌, ℕ, suc, ◌+◌, ◌<◌, ◌≤◌, List, [], ◌∷◌, ◌++◌, Bool, true, false, cond, not, Option, Some, None, length, length-append, map, replicate, refl, ap, sym, subst, ◌∙◌, arith, append_assoc, append-nil, codes, true≢false, ◌||◌}
-use Rattle.std.specs.Prelude.{Result, Ok, Err, bytes_eq, max, nat_lt}
+use Rattle.std.specs.Prelude.{Result, Ok, bytes_eq, max, nat_lt}
 use Rattle.std.specs.List.{AllByRecursion, IsDistinct, list_all, position_or_len}
 use Rattle.std.specs.Option.{is_none}
 use Rattle.std.proofs.lemmas.Bool.{and_parts}
@@ -10,7 +10,6 @@ use Rattle.std.proofs.lemmas.Slice.Eq.{bytes_eq-Decides}
 use Rattle.xb_contact.specs.declared.event.Event.{Event}
 use Rattle.xb_contact.specs.declared.event.Event.TheVariants as events
 use Rattle.xb_contact.specs.declared.event.Refusal.{Refusal}
-use Rattle.xb_contact.specs.declared.event.Refusal.TheVariants as refusals
 use Rattle.xb_contact.specs.Changes.{AreNames, IsName}
 use Rattle.xb_contact.specs.Steps.{all_say, result_and_then, result_map, said_before, then_later}
 use Rattle.xb_contact.specs.Times.{scale_by}

@@ -1,7 +1,6 @@
-use Rattle.std.proofs.Common.{◌≡◌, ℕ, ◌+◌, ◌-◌, List, ◌++◌, [], Err, append-nil, arith, drop, length, rules, subst, sym, take, ap, ◌∙◌}
+use Rattle.std.proofs.Common.{◌≡◌, ℕ, ◌+◌, List, ◌++◌, [], Err, append-nil, arith, drop, length, rules, subst, sym, take, ap, ◌∙◌}
 use Rattle.std.proofs.lemmas.Result.{IfErr-weaker, on_ok_weaker}
 use Rattle.std.specs.Prelude.{slice_range}
-use Rattle.xb_feed.specs.declared.feed.Intake.{Intake}
 use Rattle.xb_feed.specs.declared.feed.TheConstants.{PART_BYTES}
 use Rattle.xb_feed.specs.Feeding.{GoesOn}
 use Rattle.xb_feed.proofs.Fed.{fault_then, goes_none, goes_then, part_last, part_more, part_rest}
