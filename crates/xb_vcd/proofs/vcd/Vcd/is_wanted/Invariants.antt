@@ -1,7 +1,7 @@
 use Rattle.std.proofs.Common.{◌≡◌, drop}
 use Rattle.std.specs.List.{list_any}
 use Rattle.xb_vcd.specs.VcdChanges.{has_code}
-use Rattle.xb_vcd.proofs.vcd.Vcd.refuse_if_wanted.Given as goal
+use Rattle.xb_vcd.proofs.vcd.Vcd.is_wanted.Given as goal
 
 abbrev pub invariant-loop-own : goal.invariant-loop-own
 invariant-loop-own l =
