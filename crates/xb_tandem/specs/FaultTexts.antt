@@ -1,5 +1,5 @@
 -- The text of each fault.
-use Rattle.std.specs.Prelude.{ℕ, ◌++◌, List, codes, decimal, Option, Some, None}
+use Rattle.std.specs.Prelude.{ℕ, ◌++◌, List, codes, decimal, Option, Some}
 use Rattle.std.specs.Fmt.{◌++?◌}
 use Rattle.xb_command.specs.FaultTexts.{open_text}
 use Rattle.xb_outgoing.specs.FaultTexts.{outgoing_text}

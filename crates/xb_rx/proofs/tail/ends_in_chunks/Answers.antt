@@ -1,4 +1,4 @@
-use Rattle.std.proofs.Common.{◌∙◌, ℕ, false, true, arith, refl, subst, sym}
+use Rattle.std.proofs.Common.{◌∙◌, ℕ, arith, refl, subst, sym}
 use Rattle.xb_rx.specs.Tails.{Passes}
 use Rattle.xb_rx.proofs.Tails.{after_chunk, after_end, after_other, after_passed, after_short}
 use Rattle.xb_rx.proofs.tail.ends_in_chunks.Goals as goal
