@@ -5,8 +5,8 @@ use Rattle.std.specs.List.{AllByRecursion, Contains, range_with_len}
 use Rattle.std.specs.Option.{option_or}
 use Rattle.std.proofs.lemmas.Bool.{and_parts, cases_Bool, cond-false, cond-true, eqb-true, eq-eqb}
 use Rattle.std.proofs.lemmas.Bool.Decides.{nat_tests}
-use Rattle.std.proofs.lemmas.List.{length-take-le}
-use Rattle.std.proofs.lemmas.List.FromFn.{get_or-map-range_with_len}
+use Rattle.std.proofs.lemmas.List.{ext_get_or, length-take-le}
+use Rattle.std.proofs.lemmas.List.FromFn.{get_or-map-range_with_len, length-map-range_with_len}
 use Rattle.std.proofs.lemmas.Slice.Eq.{bytes_eq-Decides}
 use Rattle.xb_model.specs.declared.digit.TheConstants.{DIGITS}
 use Rattle.xb_model.specs.declared.number_entry.NumberEntry.{NumberEntry}
@@ -125,9 +125,9 @@ module _ (entries : List NumberEntry) (digits : List ℕ) where
       → AllByRecursion (λ (entry : NumberEntry). covers entry.begins digits ≡ false) others
   none-fits [] within other = tt
   none-fits (first ∷ others) within other = (
-      ⊎_elim (λ fits. absurd (other.0 (empty first.begins (within.0 fits)))) (λ no. no) (cases_Bool (covers first.begins digits)),
-      none-fits others within.1 other.1,
-    )
+    ⊎_elim (λ fits. absurd (other.0 (empty first.begins (within.0 fits)))) (λ no. no) (cases_Bool (covers first.begins digits)),
+    none-fits others within.1 other.1,
+  )
     where
       empty : (begins : List ℕ) → length begins ≤ 0 → begins ≡ []
       empty [] h = refl
@@ -281,8 +281,8 @@ module _ (entries : List NumberEntry) where
         let rooms = entry-all (take m p) (λ (x : NumberEntry). AllByRecursion (HasRoomFor x) entries) entries entry are.room e in
         let longer = passed (HasRoomFor entry) p entries rooms past in
         let front : goes_past entry.begins longer.0.begins ≡ true =
-            ap (λ begins. goes_past begins longer.0.begins) (entry-is (take m p) entries entry e)
-            ∙ past-front m p longer.0.begins h longer.2 in
+        ap (λ begins. goes_past begins longer.0.begins) (entry-is (take m p) entries entry e)
+        ∙ past-front m p longer.0.begins h longer.2 in
         let room : length longer.0.begins ≤ entry.digits = longer.1 front in
         let below = past-below p longer.0.begins longer.2 in
         omega (arith, room, below)
@@ -381,6 +381,13 @@ at-three a b c h k l =
     let third : (i - 110) % 10 ≡ c = omega (arith, h, k, l) in
     cond-false _ _ _ past ∙ cond-false _ _ _ more ∙ ap (λ d. d ∷ (i - 110) / 10 % 10 ∷ (i - 110) % 10 ∷ []) first
     ∙ ap (λ d. a ∷ d ∷ (i - 110) % 10 ∷ []) second ∙ ap (λ d. a ∷ b ∷ d ∷ []) third
+
+-- a list that has what stands at each place is the list of lengths
+pub told-all : (f : ℕ → ℕ) (told : List ℕ) → length told ≡ LENGTHS
+    → ((k : ℕ) → k < LENGTHS → slice_index_or told k 0 ≡ f k) → told ≡ map f (range_with_len 0 LENGTHS)
+told-all f told whole before =
+    ext_get_or 0 told (map f (range_with_len 0 LENGTHS)) (whole ∙ sym (length-map-range_with_len f 0 LENGTHS))
+    (λ i h. before i (omega (arith, h, whole)) ∙ sym (get_or-map-range_with_len f 0 LENGTHS i i 0 (omega (arith, h, whole)) refl))
 
 module _ (entries : List NumberEntry) where
   told-at : (i : ℕ) → i < LENGTHS → slice_index_or (lengths_by entries).told i 0 ≡ told_at entries i

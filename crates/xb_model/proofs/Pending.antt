@@ -37,7 +37,7 @@ not_before plan digits d n pending is = at (nat_le n (length digits)) refl
     told : n ≤ length digits → plan_len plan digits ≡ Some n
     told h =
         let front : plan_len plan (take n digits) ≡ Some n =
-            ap (plan_len plan) (sym (take-front n digits (one d) h)) ∙ (fills plan (digits ++ one d) n is).front in
+        ap (plan_len plan) (sym (take-front n digits (one d) h)) ∙ (fills plan (digits ++ one d) n is).front in
         ap (plan_len plan) (sym (take-append-drop n digits))
         ∙ plan_len-stays plan (take n digits) (drop n digits) n front
 

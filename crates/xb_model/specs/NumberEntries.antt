@@ -1,11 +1,13 @@
 -- Lengths of numbers by entries: the entry decides that begins with the most of a number's first digits.
-use Rattle.std.specs.Prelude.{◌≢◌, ℕ, ◌+◌, ◌-◌, ◌/◌, ◌%◌, ◌≤◌, List, [], ◌∷◌, length, map, take, Bool, true, false, ◌&&◌, ◌||◌, nat_lt, bytes_eq, if◌then◌else◌, Option, Some, None, ◌≡◌}
-use Rattle.std.specs.List.{AllByRecursion, AllPairs, range_with_len}
+use Rattle.std.specs.Prelude.{◌≡◌, ℕ, ◌+◌, ◌-◌, ◌/◌, ◌%◌, ◌≤◌, List, [], ◌∷◌, length, map, take, Bool, true, false, ◌&&◌, ◌||◌, nat_lt, bytes_eq, if◌then◌else◌, Option, Some, None}
+use Rattle.std.specs.List.{AllByRecursion, range_with_len}
 use Rattle.std.specs.Option.{option_or}
 use Rattle.xb_model.specs.declared.digits.TheConstants.{NUMBER_DIGITS}
 use Rattle.xb_model.specs.declared.number_entry.NumberEntry.{NumberEntry}
 use Rattle.xb_model.specs.declared.number_entry.TheConstants.{BEGINS_DIGITS}
 use Rattle.xb_model.specs.declared.plan.Lengths.{Lengths}
+use Rattle.xb_model.specs.declared.plan.Plan.{Plan}
+use Rattle.xb_model.specs.declared.plan.Plan.TheVariants.{Seven, Ten, By}
 use Rattle.xb_model.specs.declared.plan.TheConstants.{LENGTHS}
 
 -- the first entry that begins with just these digits
@@ -77,8 +79,13 @@ pub record IsNumberEntry (entry : NumberEntry) : Type 0 where
 abbrev pub HasRoomFor : NumberEntry → NumberEntry → Type 0
 HasRoomFor entry longer = goes_past entry.begins longer.begins ≡ true → length longer.begins ≤ entry.digits
 
--- entries as tables have them: no two begin with the same digits
+-- entries as tables have them
 pub record AreNumberEntries (entries : List NumberEntry) : Type 0 where
   pub each : AllByRecursion IsNumberEntry entries
-  pub own : AllPairs (λ entry later. entry.begins ≢ later.begins) entries
   pub room : AllByRecursion (λ entry. AllByRecursion (HasRoomFor entry) entries) entries
+
+-- a plan is what entries make, if it is a list of lengths
+abbrev pub IsMadeBy : Plan → List NumberEntry → Type 0
+IsMadeBy Seven entries = Unit {0}
+IsMadeBy Ten entries = Unit {0}
+IsMadeBy (By lengths) entries = (lengths ≡ lengths_by entries) × AreNumberEntries entries

@@ -70,7 +70,7 @@ pub use limits::{GREATEST_LIMIT, Limits};
 pub use line::{LINES, LineNo};
 pub use mark::{KEYING_MARKS, Mark};
 pub use number_entry::{
-    BEGINS_DIGITS, NumberEntry, deciding_entry, entry_at, is_passed, lengths_by,
+    BEGINS_DIGITS, NumberEntry, deciding_entry, entry_at, goes_past, lengths_by,
 };
 pub use on::{On, OnLine};
 pub use order::Order;

@@ -94,15 +94,15 @@ fn length_by(entries: &[NumberEntry], digits: &[Digit]) -> u8
     }
 }
 
-// Whether digits begin so, and go on.
-fn goes_past(begins: &[Digit], digits: &[Digit]) -> bool
+/// Whether digits begin so, and go on.
+pub fn goes_past(begins: &[Digit], digits: &[Digit]) -> bool
     ensures { result ≡ goes_past begins.now digits.now }
 {
     begins.len() < digits.len() && is_same(&digits[..begins.len()], begins)
 }
 
-/// Whether an entry begins with these digits, and with more.
-pub fn is_passed(entries: &[NumberEntry], digits: &[Digit]) -> bool
+// Whether an entry begins with these digits, and with more.
+fn is_passed(entries: &[NumberEntry], digits: &[Digit]) -> bool
     ensures { result ≡ is_passed digits.now entries.now }
 {
     for entry in entries {

@@ -1,5 +1,6 @@
 // The length of a number.
-ghost use Rattle.std.specs.Prelude.{◌≡◌, length};
+ghost use Rattle.std.specs.Prelude.{◌≡◌, [], IfSome, length};
+ghost use Rattle.xb_model.specs.NumberEntries.{IsMadeBy};
 ghost use Rattle.xb_model.specs.Numbers.{reaches};
 ghost use Rattle.xb_model.specs.Plans.{plan_len, plan_of_digits, is_service_code, is_area_code};
 ghost use Rattle.xb_model.specs.Plans.{by_first, by_two, by_three, one_at, two_at, three_at, within, within_if};
@@ -59,7 +60,8 @@ pub enum Plan {
 impl Plan {
     /// The plan whose longest numbers have so many digits, 7 or 10; `None` for any other.
     pub fn of_digits(digits: u32) -> Option<Plan>
-        ensures { result ≡ plan_of_digits digits }
+        ensures value { result ≡ plan_of_digits digits }
+        ensures made { IfSome result (λ plan. IsMadeBy plan []) }
     {
         match digits {
             7 => Some(Plan::Seven),

@@ -44,8 +44,8 @@ impl Code {
     }
 }
 
-// The digits of a text that has nothing else; `None` also where they are more than the capacity.
-fn digits_of<const CAPACITY: usize>(text: &[u8]) -> Option<DigitList<CAPACITY>>
+/// The digits of a text that has nothing else; `None` also where they are more than the capacity.
+pub(crate) fn digits_of<const CAPACITY: usize>(text: &[u8]) -> Option<DigitList<CAPACITY>>
     ensures { result ≡ digits_within CAPACITY text.now }
 {
     if text.len() > CAPACITY {
@@ -128,8 +128,8 @@ pub(crate) fn code_of(plan: Plan, text: &[u8]) -> Option<Code>
     }
 }
 
-/// How many digits the numbers have that begin with a code; where the code does not tell, one digit more than it
-/// has, which is no more than they have.
+/// How many digits the numbers have that begin with a code; where it does not tell, one more than it has, which is no
+/// more than they have.
 pub(crate) fn number_length(plan: Plan, code: &Code) -> u8
     ensures { result ≡ number_length plan code.now }
 {

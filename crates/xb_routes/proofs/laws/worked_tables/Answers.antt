@@ -1,6 +1,7 @@
 use Rattle.std.proofs.Common.{refl}
 use Rattle.std.specs.Str.{chars, is_utf8}
 use Rattle.toml.proofs.OnLiterals.{toml_on_literals}
+use Rattle.xb_routes.specs.Numbering.{numbers_from}
 use Rattle.xb_routes.specs.Text.{routes_from}
 use Rattle.xb_routes.proofs.laws.worked_tables.Goals as goal
 
@@ -40,4 +41,23 @@ returns-clause-plans_and_limits c = record {
   makes_out_of_order = refl;
   pause_not_under_timeout = refl;
   first_of_two = refl;
+}
+
+pub returns-clause-numbers : goal.returns-clause-numbers
+unfolding toml_on_literals routes_from numbers_from is_utf8 chars
+returns-clause-numbers c = record {
+  most_numbers = refl;
+  of_a_club = refl;
+  both = refl;
+  plan_first = refl;
+  not_an_array = refl;
+  no_digits = refl;
+  a_letter = refl;
+  four_digits = refl;
+  no_length = refl;
+  eleven = refl;
+  short = refl;
+  twice = refl;
+  outgrown = refl;
+  alone_first = refl;
 }
