@@ -1,19 +1,17 @@
 -- The marks of tapes are as there are: each number in its range, each key with its own pair.
-use Rattle.std.proofs.Common.{◌≡◌, ◌∙◌, ◌<◌, ◌≤◌, ◌%◌, ◌==◌, ℕ, zero, suc, Bool, true, false, cond, List, [], ◌∷◌, ◌++◌, drop, length, map, Option, Some, None, refl, sym, subst, arith, append_assoc, append-nil, nat_le}
+use Rattle.std.proofs.Common.{◌≡◌, ◌∙◌, ◌<◌, ◌≤◌, ◌%◌, ℕ, zero, suc, Bool, true, false, cond, List, [], ◌∷◌, ◌++◌, drop, length, map, Option, Some, None, refl, sym, subst, arith, append_assoc, append-nil}
 use Rattle.std.specs.Prelude.{IfSome, is_none}
 use Rattle.std.specs.List.{AllByRecursion, flat_map, list_any}
-use Rattle.std.proofs.lemmas.Bool.{cond_both, eqb-true}
-use Rattle.std.proofs.lemmas.Bool.Decides.{nat_tests}
+use Rattle.std.proofs.lemmas.Bool.{cond_both}
 use Rattle.xb_model.specs.declared.dialled.Dialled.{Dialled}
 use Rattle.xb_model.specs.declared.dialled.Dialled.TheVariants as dialled
 use Rattle.xb_model.specs.declared.digit.TheConstants.{DIGITS}
 use Rattle.xb_model.specs.declared.key.Key.TheVariants.{Digit}
 use Rattle.xb_model.specs.declared.limits.Limits.{Limits}
 use Rattle.xb_model.specs.declared.plan.Plan.{Plan}
-use Rattle.xb_model.specs.declared.plan.Plan.TheVariants.{Seven, Ten}
 use Rattle.xb_model.specs.declared.signal.TheConstants.{MOST_PULSES}
 use Rattle.xb_model.specs.Keyings.{keying, marks_of, tone}
-use Rattle.xb_model.specs.Numbers.{before_mutilated, digit_of_count, digit_of_train, good_digits, has_length, is_complete, number_of, or_refused, outcome_of, reaches, shortest_complete, train_digits, without_number}
+use Rattle.xb_model.specs.Numbers.{before_mutilated, digit_of_count, digit_of_train, good_digits, is_complete, number_of, or_refused, outcome_of, shortest_complete, train_digits, without_number}
 use Rattle.xb_model.specs.Records.{Attempt, Run, Train, attempts_of, is_timed, record_of, trains_of}
 use Rattle.xb_model.specs.Routing.{AreRoutes, CodedRoute, IsRoute, order_by, order_of, route_for}
 use Rattle.xb_model.specs.Rows.{LoopRow}
@@ -109,7 +107,9 @@ outcome-is plan limits attempt = by (number_of plan limits attempt) refl
     by : (found : Option (List ℕ)) → shortest_complete plan good ≡ found
         → IsOutcome (or_refused found
         (without_number (list_any is_none (train_digits limits attempt)) (is_timed limits attempt) (length good)))
-    by None is = pending-most plan good (completed-none plan [] good refl (sym (shortest_complete-completed plan good) ∙ is))
+    by None is =
+        let few = pending-few plan good (completed-none plan [] good refl (sym (shortest_complete-completed plan good) ∙ is)) in
+        omega (arith, few)
     by (Some number) is =
         completed-number plan [] good number tt (good-digits limits attempt) (sym (shortest_complete-completed plan good) ∙ is)
 
