@@ -125,7 +125,7 @@ module _ (entries : List NumberEntry) (digits : List ℕ) where
       → AllByRecursion (λ (entry : NumberEntry). covers entry.begins digits ≡ false) others
   none-fits [] within other = tt
   none-fits (first ∷ others) within other = (
-    ⊎_elim (λ fits. absurd (other.0 (empty first.begins (within.0 fits)))) (λ no. no) (cases_Bool (covers first.begins digits)),
+    ⊎_elim (λ fits. absurd (other.0 (empty first.begins (within.0 fits)))) (λ other. other) (cases_Bool (covers first.begins digits)),
     none-fits others within.1 other.1,
   )
     where
@@ -225,8 +225,8 @@ not-passed p key (first ∷ entries) not past =
   where
     by : (b : Bool) → bytes_eq first.begins key ≡ b → goes_past p first.begins ≡ false → entry_at key entries ≡ None
         → (if b then Some first else entry_at key entries) ≡ None
-    by true same no more = absurd (cc (ap (goes_past p) (is-same key first.begins same)))
-    by false same no more = more
+    by true same short more = absurd (cc (ap (goes_past p) (is-same key first.begins same)))
+    by false same short more = more
 
 -- where one does, it is as all of them are
 passed : (P : NumberEntry → Type 0) (p : List ℕ) (entries : List NumberEntry) → AllByRecursion P entries
@@ -387,11 +387,11 @@ pub told-all : (f : ℕ → ℕ) (told : List ℕ) → length told ≡ LENGTHS
     → ((k : ℕ) → k < LENGTHS → slice_index_or told k 0 ≡ f k) → told ≡ map f (range_with_len 0 LENGTHS)
 told-all f told whole before =
     ext_get_or 0 told (map f (range_with_len 0 LENGTHS)) (whole ∙ sym (length-map-range_with_len f 0 LENGTHS))
-    (λ i h. before i (omega (arith, h, whole)) ∙ sym (get_or-map-range_with_len f 0 LENGTHS i i 0 (omega (arith, h, whole)) refl))
+    (λ i h. before i (omega (arith, h, whole)) ∙ sym (get_or-map-range_with_len f 0 LENGTHS i i 0 (omega (arith, h, whole)) (omega arith)))
 
 module _ (entries : List NumberEntry) where
   told-at : (i : ℕ) → i < LENGTHS → slice_index_or (lengths_by entries).told i 0 ≡ told_at entries i
-  told-at i h = get_or-map-range_with_len (told_at entries) 0 LENGTHS i i 0 h refl
+  told-at i h = get_or-map-range_with_len (told_at entries) 0 LENGTHS i i 0 h (omega arith)
 
   told-one : (a : ℕ) → a < 10 → one_at (lengths_by entries).told a ≡ length_told entries (a ∷ [])
   told-one a h = told-at a (omega (arith, h)) ∙ ap (length_told entries) (at-one a h)

@@ -174,24 +174,24 @@ each-good (item value rest) i entries e = by (number_of i (two_keys_of value)) r
 
 -- entries of which none is refused beside the others have room for each other
 room-for : (entry longer : NumberEntry) → outgrows entry longer ≡ false → HasRoomFor entry longer
-room-for entry longer no = λ past. by past no
+room-for entry longer small = λ past. by past small
   where
     by : goes_past entry.begins longer.begins ≡ true → outgrows entry longer ≡ false
         → length longer.begins ≤ entry.digits
-    by past no =
-        let less : nat_lt entry.digits (length longer.begins) ≡ false = rw past at no in
+    by past small =
+        let less : nat_lt entry.digits (length longer.begins) ≡ false = rw past at small in
         grind (arith, nat_tests, less)
 
 room-among : (entry : NumberEntry) (others : List NumberEntry) → is_outgrown entry others ≡ false
     → AllByRecursion (HasRoomFor entry) others
-room-among entry [] no = tt
-room-among entry (longer ∷ others) no = by (outgrows entry longer) refl no (room-among entry others)
+room-among entry [] small = tt
+room-among entry (longer ∷ others) small = by (outgrows entry longer) refl small (room-among entry others)
   where
     by : (b : Bool) → outgrows entry longer ≡ b → (if b then true else is_outgrown entry others) ≡ false
         → (is_outgrown entry others ≡ false → AllByRecursion (HasRoomFor entry) others)
         → AllByRecursion (HasRoomFor entry) (longer ∷ others)
-    by true is no more = absurd (cc)
-    by false is no more = (room-for entry longer is, more no)
+    by true is small more = absurd (cc)
+    by false is small more = (room-for entry longer is, more small)
 
 room-from : (all : List NumberEntry) (k : ℕ) (rest : List NumberEntry) → fault_from all k rest ≡ None
     → AllByRecursion (λ entry. AllByRecursion (HasRoomFor entry) all) rest
