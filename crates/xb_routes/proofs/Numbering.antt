@@ -159,10 +159,8 @@ each-good no_items i entries e =
     subst (λ (xs : List NumberEntry). AllByRecursion IsNumberEntry xs) same tt
 each-good (item value rest) i entries e = by (number_of i (two_keys_of value)) refl (each-good rest (i + 1))
   where
-    Rest : Type 0
-    Rest = (more : List NumberEntry) → numbers_from (i + 1) rest ≡ Ok more → AllByRecursion IsNumberEntry more
-
-    by : (r : Result NumberEntry RouteFault) → number_of i (two_keys_of value) ≡ r → Rest
+    by : (r : Result NumberEntry RouteFault) → number_of i (two_keys_of value) ≡ r
+        → ((more : List NumberEntry) → numbers_from (i + 1) rest ≡ Ok more → AllByRecursion IsNumberEntry more)
         → AllByRecursion IsNumberEntry entries
     by (Err f) r later = absurd (cc (from-refused i value rest f r))
     by (Ok entry) r later =
