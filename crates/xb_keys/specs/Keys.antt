@@ -27,7 +27,7 @@ key_text key.Digits = codes "digits"
 
 -- the keys that rules name in a section
 abbrev pub keys_of : Section → List Key
-keys_of section.Top = key.Plan ∷ key.Limits ∷ key.Route ∷ key.Number ∷ []
+keys_of section.Top = key.Plan ∷ key.Limits ∷ key.Number ∷ key.Route ∷ []
 keys_of section.Limits =
     key.PulseMin ∷ key.PulseMax ∷ key.MakeMin ∷ key.Pause ∷ key.Release ∷ key.Timeout ∷ []
 keys_of section.Route = key.Code ∷ key.Trunk ∷ key.Delete ∷ key.Prefix ∷ []

@@ -27,7 +27,7 @@ pub enum Key {
     Digits,
 }
 
-const TOP_KEYS: &[Key] = &[Key::Plan, Key::Limits, Key::Route, Key::Number];
+const TOP_KEYS: &[Key] = &[Key::Plan, Key::Limits, Key::Number, Key::Route];
 
 const LIMIT_KEYS: &[Key] = &[
     Key::PulseMin,

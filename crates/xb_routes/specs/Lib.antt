@@ -14,4 +14,3 @@ pub mod ByKey
 pub mod ByItem
 pub mod Worked
 pub mod LimitFaults
-pub mod Entries

@@ -25,7 +25,8 @@
 //! - `LimitFault`: the rule that limits break, and its number in a `RouteFault`.
 //! - `limits_by`, `entry_of`: the limits and a route of a caller that reads no TOML, judged by the same
 //!   bodies in the same words. They take no memory.
-//! - `RouteTable::deciding`: the entry `[[number]]` that decides how many digits a number has.
+//! - `RouteTable::numbers`: the entries `[[number]]` of which the plan is made; they are lawful
+//!   (`laws::entries_are_lawful`), so the longest with which a number begins decides how many digits it has.
 //! - `RouteTable::look`: the route of the longest code that the digits begin with, `None` exactly where no
 //!   code is one. `limits` are lawful.
 //! - `Translate::new`: a number gives the order of its route, or is refused as Unknown with its length; a

@@ -5,9 +5,9 @@ ghost use Rattle.std.specs.Result.{result_map_both};
 ghost use Rattle.toml.specs.Data.{get_member};
 ghost use Rattle.toml.specs.View.{items_view, table_view};
 ghost use Rattle.xb_model.specs.LawfulLimits.{IsLawful};
+ghost use Rattle.xb_model.specs.NumberEntries.{IsMadeBy};
 ghost use Rattle.xb_model.specs.Routing.{route_for};
 ghost use Rattle.xb_routes.specs.Coded.{coded, uncoded};
-ghost use Rattle.xb_routes.specs.Entries.{IsDeciding};
 ghost use Rattle.xb_routes.specs.Text.{route_items, routes_from, routes_of_array, routes_of_key};
 ghost use Rattle.xb_routes.specs.Text.{table_of_text, tree_of};
 ghost use Rattle.xb_routes.specs.declared.fault.RouteFault.TheVariants.{NoMemory, NotToml};
@@ -22,7 +22,7 @@ use arrayvec::ArrayVec;
 use std::alloc::Global;
 use std::marker::Model;
 use toml::{Table, Value};
-use xb_model::{Digit, Limits, NumberEntry, Plan, deciding_entry};
+use xb_model::{Digit, Limits, NumberEntry, Plan};
 
 /// The most routes of a table.
 pub const MOST_ROUTES: usize = 1_000;
@@ -173,15 +173,11 @@ impl RouteTable {
         self.plan
     }
 
-    /// The entry `[[number]]` that decides how many digits a number has: of those of which the plan is made, and with
-    /// which the number begins, the one that begins with the most. `None` where none does, or the table has none.
-    pub fn deciding(&self, digits: &[Digit]) -> Option<&NumberEntry>
-        ensures { IsDeciding self.now.plan digits.now (option_copied result) }
+    /// The entries `[[number]]` of which the plan is made, if it is a list of lengths.
+    pub fn numbers(&self) -> &[NumberEntry]
+        ensures { IsMadeBy self.now.plan result.now }
     {
-        match self.plan {
-            Plan::Seven | Plan::Ten => None,
-            Plan::By(_) => deciding_entry(&self.numbers, digits),
-        }
+        &self.numbers
     }
 
     /// The limits by which the pulses of numbers are judged.
