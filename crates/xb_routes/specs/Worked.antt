@@ -1,8 +1,10 @@
 -- What the definitions give at worked tables.
 use Rattle.std.specs.Prelude.{◌≡◌, ℕ, List, [], ◌∷◌, ◌++◌, codes, Some, None, Ok, Err}
 use Rattle.xb_model.specs.declared.number_entry.NumberEntry.{NumberEntry}
+use Rattle.xb_model.specs.declared.number_entry.TheConstants.{BEGINS_DIGITS}
 use Rattle.xb_model.specs.declared.plan.Plan.{Plan}
 use Rattle.xb_model.specs.declared.plan.Plan.TheVariants.{Seven, Ten, By}
+use Rattle.xb_model.specs.declared.plan.TheConstants.{LENGTHS}
 use Rattle.xb_model.specs.NumberEntries.{lengths_by}
 use Rattle.xb_model.specs.Routing.{CodedRoute, coded_route, route_for}
 use Rattle.xb_model.specs.WorkedRows.{three_routes}
@@ -140,6 +142,8 @@ RefusesNumbers first second f =
 -- entries of numbers, and why they are refused
 pub record ReadsNumbers : Type 0 where
   pub most_numbers : MOST_NUMBERS ≡ 100
+  pub begins_digits : BEGINS_DIGITS ≡ 3
+  pub lengths : LENGTHS ≡ 1110
   pub of_a_club : table_of_text club_lines ≡ Ok (table_by [] club standard_limits)
   pub both : table_of_text (codes "plan = 7\n" ++ club_lines) ≡ Err fault.PlanAndNumber
   pub plan_first : table_of_text (codes "plan = 8\n" ++ club_lines) ≡ Err fault.Plan

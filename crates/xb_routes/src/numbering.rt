@@ -180,8 +180,8 @@ pub(crate) fn numbering_of(tree: &Table) -> Result<Numbering, RouteFault>
             entries: ArrayVec::new(),
         });
     };
-    if value_at(tree, "plan").is_some() {
-        return Err(RouteFault::PlanAndNumber);
+    match value_at(tree, "plan") {
+        Some(_) => Err(RouteFault::PlanAndNumber),
+        None => Ok(made_by(numbers_of(numbers)?)),
     }
-    Ok(made_by(numbers_of(numbers)?))
 }

@@ -47,6 +47,8 @@ pub returns-clause-numbers : goal.returns-clause-numbers
 unfolding toml_on_literals routes_from numbers_from is_utf8 chars
 returns-clause-numbers c = record {
   most_numbers = refl;
+  begins_digits = refl;
+  lengths = refl;
   of_a_club = refl;
   both = refl;
   plan_first = refl;
