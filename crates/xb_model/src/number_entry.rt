@@ -18,6 +18,17 @@ pub struct NumberEntry {
     pub digits: u8,
 }
 
+impl Default for NumberEntry {
+    ghost is_default = { λ entry. entry.digits ≡ 0 };
+
+    fn default() -> NumberEntry {
+        NumberEntry {
+            begins: DigitList::new(),
+            digits: 0,
+        }
+    }
+}
+
 // Whether two lists of digits are the same.
 fn is_same(some: &[Digit], others: &[Digit]) -> bool
     ensures { result ≡ bytes_eq some.now others.now }
