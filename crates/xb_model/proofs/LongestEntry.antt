@@ -391,6 +391,7 @@ told-all f told whole before =
 
 module _ (entries : List NumberEntry) where
   told-at : (i : ℕ) → i < LENGTHS → slice_index_or (lengths_by entries).told i 0 ≡ told_at entries i
+  unfolding lengths_by
   told-at i h = get_or-map-range_with_len (told_at entries) 0 LENGTHS i i 0 h (omega arith)
 
   told-one : (a : ℕ) → a < 10 → one_at (lengths_by entries).told a ≡ length_told entries (a ∷ [])

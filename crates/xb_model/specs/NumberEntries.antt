@@ -64,7 +64,7 @@ abbrev pub told_at : List NumberEntry → ℕ → ℕ
 told_at entries place = length_told entries (digits_at place)
 
 -- the list of lengths that entries make
-abbrev pub lengths_by : List NumberEntry → Lengths
+unfoldable pub lengths_by : List NumberEntry → Lengths
 lengths_by entries = record { told = map (told_at entries) (range_with_len 0 LENGTHS) }
 
 -- an entry as tables have them: it begins with three digits at most, and its numbers have one to ten, and no

@@ -54,7 +54,6 @@ pub fn tables_by_text()
 /// The entries of an array that is accepted are as those for which the longest decides how many digits a number has
 /// (`longest_decides` of `xb_model`): each begins with three digits at most, and none has fewer digits than another
 /// begins with that goes on from it.
-#[tactic(auto, using(crate::proofs::Numbering::numbers_good))]
 pub fn entries_are_lawful()
     ensures { (items : Items) (entries : List NumberEntry) →
         numbers_of_array items ≡ Ok entries → AreNumberEntries entries }

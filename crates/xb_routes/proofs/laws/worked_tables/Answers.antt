@@ -1,6 +1,7 @@
 use Rattle.std.proofs.Common.{refl}
 use Rattle.std.specs.Str.{chars, is_utf8}
 use Rattle.toml.proofs.OnLiterals.{toml_on_literals}
+use Rattle.xb_model.specs.NumberEntries.{lengths_by}
 use Rattle.xb_routes.specs.Numbering.{numbers_from}
 use Rattle.xb_routes.specs.Text.{routes_from}
 use Rattle.xb_routes.proofs.laws.worked_tables.Goals as goal
@@ -62,4 +63,19 @@ returns-clause-numbers c = record {
   twice = refl;
   outgrown = refl;
   alone_first = refl;
+}
+
+pub returns-clause-codes_of_lengths : goal.returns-clause-codes_of_lengths
+unfolding lengths_by
+returns-clause-codes_of_lengths c = record {
+  operator = refl;
+  one_digit = refl;
+  whole_number = refl;
+  longer_than_numbers = refl;
+  two_for_one = refl;
+  seven = refl;
+  ten_digits = refl;
+  no_digit = refl;
+  told_length = refl;
+  untold_length = refl;
 }

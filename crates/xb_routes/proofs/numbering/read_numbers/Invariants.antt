@@ -1,7 +1,7 @@
 use Rattle.std.proofs.Common.{◌≡◌, ◌+◌, drop, length}
 use Rattle.toml.specs.View.{items_view}
 use Rattle.xb_routes.specs.Numbering.{numbers_from}
-use Rattle.xb_routes.proofs.Numbering.{after}
+use Rattle.xb_routes.proofs.NumberEntries.{after}
 use Rattle.xb_routes.proofs.numbering.read_numbers.Given as goal
 
 abbrev pub invariant-loop-value : goal.invariant-loop-value

@@ -1,25 +1,27 @@
 -- The entries of a table that are read, one after another, and what is known of those that are taken.
 use Rattle.std.proofs.Common.{◌≡◌, ◌+◌, ◌≤◌, ◌<◌, ℕ, suc, ℤ, List, [], ◌∷◌, ◌++◌, length, get_or, drop, take, Option, Some, None, Result, Ok, Err, Bool, true, false, refl, sym, ap, subst, ◌∙◌, append_assoc, append-nil, arith}
-use Rattle.std.specs.Prelude.{◌&&◌, pos, negsuc, nat_le, nat_lt, is_some, if◌then◌else◌}
+use Rattle.std.specs.Prelude.{◌&&◌, codes, pos, negsuc, nat_le, nat_lt, is_some, if◌then◌else◌}
 use Rattle.std.specs.List.{AllByRecursion}
 use Rattle.std.proofs.lemmas.Bool.{and_parts, cond-false, cond-true}
 use Rattle.std.proofs.lemmas.Bool.Decides.{nat_tests}
 use Rattle.std.proofs.lemmas.List.{drop_all}
-use Rattle.toml.specs.Data.{Data, Items, no_items, item}
+use Rattle.toml.specs.Data.{Data, Items, no_items, item, Members, get_member}
 use Rattle.toml.specs.View.{items_view, view}
 use Rattle.toml.specs.declared.value.Value.{Value}
 use Rattle.toml.proofs.Views.{items_view-drop}
 use Rattle.xb_model.specs.declared.digits.TheConstants.{NUMBER_DIGITS}
 use Rattle.xb_model.specs.declared.number_entry.NumberEntry.{NumberEntry}
 use Rattle.xb_model.specs.declared.number_entry.TheConstants.{BEGINS_DIGITS}
-use Rattle.xb_model.specs.NumberEntries.{AreNumberEntries, HasRoomFor, IsNumberEntry, entry_at, goes_past}
+use Rattle.xb_model.specs.declared.plan.Plan.TheVariants.{By}
+use Rattle.xb_model.specs.NumberEntries.{AreNumberEntries, HasRoomFor, IsNumberEntry, entry_at, goes_past, lengths_by}
 use Rattle.xb_routes.specs.declared.fault.NumberFault.TheVariants as rule
 use Rattle.xb_routes.specs.declared.fault.RouteFault.{RouteFault}
 use Rattle.xb_routes.specs.declared.fault.RouteFault.TheVariants as fault
 use Rattle.xb_routes.specs.declared.numbering.TheConstants.{MOST_NUMBERS}
 use Rattle.xb_routes.specs.Codes.{digits_of_text, digits_within}
 use Rattle.xb_routes.specs.Items.{count}
-use Rattle.xb_routes.specs.Numbering.{TwoKeys, digits_of_number, fault_from, if_whole, is_outgrown, number_entry, number_of, numbers_from, numbers_of_array, or_entries, outgrows, two_keys_of}
+use Rattle.xb_routes.specs.Numbering.{TwoKeys, digits_of_number, fault_from, if_whole, is_outgrown, number_entry, number_of, numbers_from, numbers_of, numbers_of_array, or_entries, outgrows, plan_beside, plan_of_tree, two_keys_of}
+use Rattle.xb_routes.specs.PlanAndLimits.{plan_of}
 use Rattle.xb_routes.specs.Steps.{and_then, or_fault}
 use Rattle.xb_routes.proofs.Codes.{digits-length}
 use Rattle.xb_routes.proofs.Reading.{count-view}
@@ -219,9 +221,9 @@ beside-good entries taken each e = by (fault_from entries 0 entries) refl e
         subst (λ (xs : List NumberEntry). AreNumberEntries xs) same
         (record { each = each; room = room-from entries 0 entries is })
 
-pub numbers_good : (items : Items) (entries : List NumberEntry) → numbers_of_array items ≡ Ok entries
+pub numbers-good : (items : Items) (entries : List NumberEntry) → numbers_of_array items ≡ Ok entries
     → AreNumberEntries entries
-numbers_good items entries e = by (nat_le (count items) MOST_NUMBERS) e
+numbers-good items entries e = by (nat_le (count items) MOST_NUMBERS) e
   where
     by : (b : Bool) → (if b then and_then (numbers_from 1 items) beside else Err fault.TooManyNumbers) ≡ Ok entries
         → AreNumberEntries entries
@@ -229,3 +231,19 @@ numbers_good items entries e = by (nat_le (count items) MOST_NUMBERS) e
     by true e =
         let alone = both (List NumberEntry) (List NumberEntry) (numbers_from 1 items) beside entries e in
         beside-good alone.0 entries (each-good items 1 alone.0 alone.1) alone.2
+
+-- the plan of a tree that has entries, and no plan
+plan-beside : (said held : Option Data) (value : Data) (entries : List NumberEntry) → said ≡ None → held ≡ Some value
+    → numbers_of value ≡ Ok entries
+    → or_fault fault.Plan (plan_of said) (λ plan. plan_beside plan said held) ≡ Ok (By (lengths_by entries))
+plan-beside (Some other) held value entries none some read = absurd (cc none)
+plan-beside None None value entries none some read = absurd (cc some)
+plan-beside None (Some numbers) value entries none some read =
+    let same : numbers ≡ value = cc in
+    ap (λ r. and_then r (λ found. Ok (By (lengths_by found)))) (ap numbers_of same ∙ read)
+
+pub plan-by-entries : (tree : Members) (value : Data) (entries : List NumberEntry)
+    → get_member (codes "plan") tree ≡ None → get_member (codes "number") tree ≡ Some value
+    → numbers_of value ≡ Ok entries → plan_of_tree tree ≡ Ok (By (lengths_by entries))
+plan-by-entries tree value entries none some read =
+    plan-beside (get_member (codes "plan") tree) (get_member (codes "number") tree) value entries none some read
