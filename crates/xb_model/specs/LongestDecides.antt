@@ -1,5 +1,5 @@
 -- The longest entry decides how many digits a number has.
-use Rattle.std.specs.Prelude.{◌≡◌, ℕ, ◌<◌, ◌≤◌, List, length, true, false, ◌==◌, Option, Some, None}
+use Rattle.std.specs.Prelude.{◌≡◌, ℕ, ◌<◌, ◌≤◌, List, length, true, false, ◌==◌, Some, None}
 use Rattle.std.specs.List.{AllByRecursion, Contains}
 use Rattle.xb_model.specs.declared.digit.TheConstants.{DIGITS}
 use Rattle.xb_model.specs.declared.number_entry.NumberEntry.{NumberEntry}

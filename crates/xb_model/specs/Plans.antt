@@ -1,5 +1,5 @@
 -- The length of a number. N is 2 to 9, X is 0 to 9.
-use Rattle.std.specs.Prelude.{ℕ, suc, ◌+◌, ◌*◌, List, [], ◌∷◌, Bool, not, ◌&&◌, if◌then◌else◌, nat_le, nat_lt, ◌==◌, Option, Some, None, slice_index_or}
+use Rattle.std.specs.Prelude.{ℕ, ◌+◌, ◌*◌, List, [], ◌∷◌, Bool, not, ◌&&◌, if◌then◌else◌, nat_le, nat_lt, ◌==◌, Option, Some, None, slice_index_or}
 use Rattle.xb_model.specs.declared.plan.Plan.{Plan}
 use Rattle.xb_model.specs.declared.plan.Plan.TheVariants.{Seven, Ten, By}
 
