@@ -1,5 +1,5 @@
 -- How long numbers are by a table: by the number at its key `plan`, or by the entries at its key `number`.
-use Rattle.std.specs.Prelude.{ℕ, suc, ◌+◌, ℤ, pos, negsuc, ◌&&◌, nat_le, nat_lt, if◌then◌else◌, List, [], ◌∷◌, codes, length, take, Bool, true, false, is_some, Option, Some, None, option_and_then, option_map, Result, Ok, Err}
+use Rattle.std.specs.Prelude.{ℕ, ◌+◌, ℤ, pos, negsuc, ◌&&◌, nat_le, nat_lt, if◌then◌else◌, List, [], ◌∷◌, codes, length, take, Bool, true, false, is_some, Option, Some, None, option_and_then, option_map, Result, Ok, Err}
 use Rattle.toml.specs.Data.{Data, Items, no_items, item, Members, as_array, as_integer, as_str, as_table, get_member}
 use Rattle.xb_model.specs.declared.digits.TheConstants.{NUMBER_DIGITS}
 use Rattle.xb_model.specs.declared.number_entry.NumberEntry.{NumberEntry}
@@ -7,7 +7,6 @@ use Rattle.xb_model.specs.declared.number_entry.TheConstants.{BEGINS_DIGITS}
 use Rattle.xb_model.specs.declared.plan.Plan.{Plan}
 use Rattle.xb_model.specs.declared.plan.Plan.TheVariants.{By}
 use Rattle.xb_model.specs.NumberEntries.{entry_at, goes_past, lengths_by}
-use Rattle.xb_routes.specs.declared.fault.NumberFault.{NumberFault}
 use Rattle.xb_routes.specs.declared.fault.NumberFault.TheVariants as rule
 use Rattle.xb_routes.specs.declared.fault.RouteFault.{RouteFault}
 use Rattle.xb_routes.specs.declared.fault.RouteFault.TheVariants as fault

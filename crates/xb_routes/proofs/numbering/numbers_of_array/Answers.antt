@@ -1,7 +1,7 @@
-use Rattle.std.proofs.Common.{◌≡◌, ◌∙◌, Some, None, Ok, ap, sym, rules}
+use Rattle.std.proofs.Common.{◌≡◌, ◌∙◌, Some, None, ap, sym, rules}
 use Rattle.std.proofs.lemmas.Result.{err_from_is_err_and}
 use Rattle.toml.specs.View.{items_view}
-use Rattle.xb_routes.specs.Numbering.{fault_from, numbers_from, or_entries}
+use Rattle.xb_routes.specs.Numbering.{fault_from, or_entries}
 use Rattle.xb_routes.specs.Steps.{and_then}
 use Rattle.xb_routes.proofs.NumberEntries.{beside, numbers-few, numbers-good, numbers-many}
 use Rattle.xb_routes.proofs.numbering.numbers_of_array.Goals as goal
