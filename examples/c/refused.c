@@ -296,6 +296,8 @@ static void try_bytes(void)
             scatter(&scattered, sizeof scattered, &seed);
         if (trial % 2 == 0)
             memcpy(&scattered, &table, offsetof(mf_table, count));
+        if (trial % 4 == 2)
+            scattered.plan = 1; /* numbers as long as the bytes behind the routes say */
         scattered.count = trial % 4 < 3 ? seed % (MF_MOST_ROUTES + 1) : seed;
         scatter(&line, sizeof line, &seed);
         line.phase = (uint8_t)(line.phase % 8);

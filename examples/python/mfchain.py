@@ -23,6 +23,7 @@ LIBRARY = "libmfchain.so.0"
 LINES = 10000
 MOST_MARKS = 24
 MOST_ROUTES = 1000
+LENGTHS = 1110
 MOST_DIGITS = 10
 FAULT_ROOM = 64
 ENTRY_ROOM = 1025
@@ -109,7 +110,7 @@ class _Route(ctypes.Structure):
 
 
 class _Table(ctypes.Structure):
-    _fields_ = [("head", ctypes.c_uint32 * 8), ("routes", _Route * MOST_ROUTES)]
+    _fields_ = [("head", ctypes.c_uint32 * 8), ("routes", _Route * MOST_ROUTES), ("lengths", ctypes.c_uint8 * LENGTHS)]
 
 
 def _declare(library: ctypes.CDLL) -> None:

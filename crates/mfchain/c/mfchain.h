@@ -32,6 +32,9 @@ extern "C" {
 /* The most routes of a table. */
 #define MF_MOST_ROUTES 1000
 
+/* The lengths of numbers in a table: of each digit, of each two and of each three. */
+#define MF_LENGTHS 1110
+
 /* The most digits of a number: room for those of mf_dialled. */
 #define MF_MOST_DIGITS 10
 
@@ -57,7 +60,7 @@ enum mf_status {
     MF_WRONG_STATE = 5,     /* the state is none of MF_MAKE, MF_BREAK and MF_CLOSE */
     MF_WRONG_MS = 6,        /* the time is over a day, or a close has one */
     MF_NO_ROOM = 7,         /* there are more marks, bytes or samples than there is room for */
-    /* of a table's text; the text of the fault says of which limit or route */
+    /* of a table's text; the text of the fault says of which limit, route or entry of numbers */
     MF_NOT_TOML = 8,        /* it is not TOML */
     MF_WRONG_PLAN = 9,      /* `plan` is neither 7 nor 10 */
     MF_WRONG_LIMIT = 10,    /* a limit is wrong */
@@ -78,7 +81,16 @@ enum mf_status {
     /* of what is shown, played or written as a letter */
     MF_WRONG_MARKS = 24,    /* these are not the marks of an entry */
     MF_WRONG_CADENCE = 25,  /* a time of the cadence is out of its range */
-    MF_WRONG_CHARACTER = 26 /* the character is no digit and no letter of the dial */
+    MF_WRONG_CHARACTER = 26, /* the character is no digit and no letter of the dial */
+    /* of a table's text, too; 27 is no status of this library */
+    MF_PLAN_AND_NUMBER = 28, /* it has both `plan` and `number` */
+    MF_MANY_NUMBERS = 29,    /* it has more than 100 entries of numbers */
+    MF_NUMBER_SHAPE = 30,    /* an entry of numbers lacks a key, or has one of another kind */
+    MF_NUMBER_BEGINS = 31,   /* the `begins` of an entry is not 0 to 3 digits */
+    MF_NUMBER_DIGITS = 32,   /* the `digits` of an entry is not 1 to 10 */
+    MF_NUMBER_SHORT = 33,    /* an entry has fewer digits than it begins with */
+    MF_NUMBER_TWICE = 34,    /* two entries begin with the same digits */
+    MF_NUMBER_OUTGROWN = 35  /* an entry has fewer digits than another begins with that goes on from it */
 };
 
 /* What the loop of a line does. */
@@ -135,6 +147,7 @@ typedef struct {
 typedef struct {
     uint32_t plan, pulse_min, pulse_max, make_min, pause, release, timeout, count;
     mf_route routes[MF_MOST_ROUTES];
+    uint8_t lengths[MF_LENGTHS];
 } mf_table;
 
 /* The library's own entries: no pointer may be null, not even where its length is 0. */

@@ -1,7 +1,7 @@
 // What each status says, as text.
 ghost use Rattle.std.specs.Prelude.{◌≡◌, ◌≢◌, ◌≤◌, ◌<◌, length};
 ghost use Rattle.mfchain.specs.Texts.{HasText};
-ghost use Rattle.mfchain.specs.StatusTexts.{LacksRoom, call_text, status_text, table_text, told_text};
+ghost use Rattle.mfchain.specs.StatusTexts.{LacksRoom, call_text, number_text, status_text, table_text, told_text};
 
 use crate::status::NO_ROOM;
 use crate::texts::put_ended;
@@ -61,6 +61,23 @@ fn told_text(status: u32) -> &'static str
     }
 }
 
+// The text of a status of a table with entries of numbers.
+fn number_text(status: u32) -> &'static str
+    ensures value { result.now ≡ number_text status }
+    ensures few { length result.now < 64 }
+{
+    match status {
+        28 => "both plan and number",
+        29 => "more than 100 numbers",
+        30 => "a number has a wrong shape",
+        31 => "a number has a wrong begins",
+        32 => "a number has wrong digits",
+        33 => "a number is shorter than its begins",
+        34 => "a number repeats a begins",
+        _ => "a number is shorter than a longer begins",
+    }
+}
+
 // The text of a status, and of any other number.
 fn text_of(status: u32) -> &'static str
     ensures value { result.now ≡ status_text status }
@@ -70,6 +87,7 @@ fn text_of(status: u32) -> &'static str
         0..=7 => call_text(status),
         8..=18 => table_text(status),
         19..=26 => told_text(status),
+        28..=35 => number_text(status),
         _ => "this is no status",
     }
 }
