@@ -44,7 +44,7 @@ fn table_text(status: u32) -> &'static str
     }
 }
 
-// The text of a status of what is heard on a line, and of what is shown, played or dialled.
+// The text of a status of what is heard on a line or in a sound, and of what is shown, played or dialled.
 fn told_text(status: u32) -> &'static str
     ensures value { result.now ≡ told_text status }
     ensures few { length result.now < 64 }
@@ -57,7 +57,8 @@ fn told_text(status: u32) -> &'static str
         23 => "the digits complete no number",
         24 => "these are not the marks of an entry",
         25 => "a time of the cadence is out of its range",
-        _ => "a character is a digit or a letter of the dial",
+        26 => "a character is a digit or a letter of the dial",
+        _ => "this is no ear",
     }
 }
 
@@ -67,13 +68,13 @@ fn number_text(status: u32) -> &'static str
     ensures few { length result.now < 64 }
 {
     match status {
-        28 => "both plan and number",
-        29 => "more than 100 numbers",
-        30 => "a number has a wrong shape",
-        31 => "a number has a wrong begins",
-        32 => "a number has wrong digits",
-        33 => "a number is shorter than its begins",
-        34 => "a number repeats a begins",
+        29 => "both plan and number",
+        30 => "more than 100 numbers",
+        31 => "a number has a wrong shape",
+        32 => "a number has a wrong begins",
+        33 => "a number has wrong digits",
+        34 => "a number is shorter than its begins",
+        35 => "a number repeats a begins",
         _ => "a number is shorter than a longer begins",
     }
 }
@@ -86,8 +87,8 @@ fn text_of(status: u32) -> &'static str
     match status {
         0..=7 => call_text(status),
         8..=18 => table_text(status),
-        19..=26 => told_text(status),
-        28..=35 => number_text(status),
+        19..=26 | 28 => told_text(status),
+        29..=36 => number_text(status),
         _ => "this is no status",
     }
 }

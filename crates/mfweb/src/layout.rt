@@ -2,14 +2,12 @@
 ghost use Rattle.std.specs.Prelude.{◌≡◌, ◌≢◌, ◌≤◌, ◌<◌, length, take};
 ghost use Rattle.mfweb.specs.declared.layout.TheConstants.{LAYOUT};
 
-use crate::ears::{WebEar, WebHeard, WebSight};
 use crate::exports::WebRoute;
 use crate::lamps::{WebDigit, WebLamps};
-use crate::status::NO_ROOM;
 use crate::taking::WebTaken;
 use std::mem::size_of;
 use xb_model::Limits;
-use xb_onward::{PlainKey, PlainOutcome};
+use xb_onward::{EarMemory, NO_ROOM, PlainHeard, PlainKey, PlainOutcome, PlainSight};
 use xb_sound::Cadence;
 use xb_structs::{DONE, PlainLine, PlainMark, PlainRoute, PlainRow, PlainSignal, PlainTable};
 
@@ -61,11 +59,11 @@ const _: () = prove!(size_of::<WebTaken>() == 584);
 
 const _: () = prove!(size_of::<Cadence>() == 8);
 
-const _: () = prove!(size_of::<WebSight>() == 24);
+const _: () = prove!(size_of::<PlainSight>() == 24);
 
-const _: () = prove!(size_of::<WebHeard>() == 40);
+const _: () = prove!(size_of::<PlainHeard>() == 40);
 
-const _: () = prove!(size_of::<WebEar>() == 1_816);
+const _: () = prove!(size_of::<EarMemory>() == 1_816);
 
 const _: () = prove!(size_of::<PlainKey>() == 24);
 

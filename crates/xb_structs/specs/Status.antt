@@ -23,12 +23,12 @@ refusal_status refusal.Room = 7
 
 -- of a table with an entry of numbers that breaks a rule
 abbrev pub number_status : NumberFault → ℕ
-number_status rule.Shape = 30
-number_status rule.Begins = 31
-number_status rule.Digits = 32
-number_status rule.Short = 33
-number_status rule.Twice = 34
-number_status rule.Outgrown = 35
+number_status rule.Shape = 31
+number_status rule.Begins = 32
+number_status rule.Digits = 33
+number_status rule.Short = 34
+number_status rule.Twice = 35
+number_status rule.Outgrown = 36
 
 -- of a table that is refused
 abbrev pub fault_status : RouteFault → ℕ
@@ -44,8 +44,8 @@ fault_status (fault.Delete i) = 15
 fault_status (fault.Prefix i) = 16
 fault_status (fault.NothingToKey i) = 17
 fault_status (fault.Twice i) = 18
-fault_status fault.PlanAndNumber = 28
-fault_status fault.TooManyNumbers = 29
+fault_status fault.PlanAndNumber = 29
+fault_status fault.TooManyNumbers = 30
 fault_status (fault.Number i broken) = number_status broken
 
 -- of what is not heard on a line

@@ -44,14 +44,14 @@ pub fn fault_status(fault: RouteFault) -> u32
         RouteFault::Prefix(_) => 16,
         RouteFault::NothingToKey(_) => 17,
         RouteFault::Twice(_) => 18,
-        RouteFault::PlanAndNumber => 28,
-        RouteFault::TooManyNumbers => 29,
-        RouteFault::Number(_, NumberFault::Shape) => 30,
-        RouteFault::Number(_, NumberFault::Begins) => 31,
-        RouteFault::Number(_, NumberFault::Digits) => 32,
-        RouteFault::Number(_, NumberFault::Short) => 33,
-        RouteFault::Number(_, NumberFault::Twice) => 34,
-        RouteFault::Number(_, NumberFault::Outgrown) => 35,
+        RouteFault::PlanAndNumber => 29,
+        RouteFault::TooManyNumbers => 30,
+        RouteFault::Number(_, NumberFault::Shape) => 31,
+        RouteFault::Number(_, NumberFault::Begins) => 32,
+        RouteFault::Number(_, NumberFault::Digits) => 33,
+        RouteFault::Number(_, NumberFault::Short) => 34,
+        RouteFault::Number(_, NumberFault::Twice) => 35,
+        RouteFault::Number(_, NumberFault::Outgrown) => 36,
     }
 }
 

@@ -4,7 +4,10 @@ use Rattle.xb_model.specs.declared.key.Key.{Key}
 use Rattle.xb_model.specs.declared.key.Key.TheVariants.{Digit, Kp, St}
 use Rattle.xb_model.specs.declared.key.Tone.{Tone as Pair}
 use Rattle.xb_model.specs.MfPairs.{key_of_pair}
-use Rattle.mfweb.specs.declared.names.Name.{Name}
+use Rattle.xb_onward.specs.declared.names.Name.{Name}
+
+abbrev pub pair : ℕ → ℕ → Pair
+pair low high = record { low = low; high = high }
 
 abbrev pub name : ℕ → ℕ → Name
 name kind value = record { kind = kind; value = value }

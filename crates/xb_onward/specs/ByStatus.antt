@@ -1,4 +1,4 @@
--- What the calls answer by which a page has a second office take what is heard, and send it on.
+-- What the calls answer by which a second office takes what is heard, and sends it on.
 use Rattle.std.specs.Prelude.{◌≡◌, ℕ, ◌≤◌, ◌==◌, not, List, length, map, take}
 use Rattle.xb_onward.specs.declared.key.PlainKey.{PlainKey}
 use Rattle.xb_onward.specs.declared.outcome.PlainOutcome.{PlainOutcome}
@@ -10,7 +10,7 @@ use Rattle.xb_onward.specs.Registering.{told_of}
 use Rattle.xb_onward.specs.Sending.{IsNotSent, Sends}
 use Rattle.xb_structs.specs.declared.mark.PlainMark.{PlainMark}
 use Rattle.xb_structs.specs.declared.table.PlainTable.{PlainTable}
-use Rattle.mfweb.specs.declared.status.TheConstants.{NO_ROOM}
+use Rattle.xb_onward.specs.declared.status.TheConstants.{NO_ROOM}
 
 -- what a register tells of the keys is in the room: where they have ended all outcomes, and else those that are certain
 pub record IsRegistered (ended : ℕ) (keys : List PlainKey) (room : List PlainOutcome) (count : ℕ) : Type 0 where

@@ -1,7 +1,7 @@
 // What an ear knows and hears, as plain numbers.
 ghost use Rattle.std.specs.Prelude.{◌≡◌, ◌↔◌, IsSome, IfSome, Some, map};
-ghost use Rattle.mfweb.specs.Ears.{IsEar, key_in, no_sight, plain_key, plain_optional, plain_sight};
-ghost use Rattle.mfweb.specs.Ears.{receiving_in, sight_in};
+ghost use Rattle.xb_onward.specs.Ears.{IsEar, key_in, no_sight, plain_key, plain_optional, plain_sight};
+ghost use Rattle.xb_onward.specs.Ears.{receiving_in, sight_in};
 
 use crate::names::name_of;
 use xb_ear::{Heard, Hearing, PlainEar, Receiver, Sight};
@@ -10,7 +10,7 @@ use xb_model::Tone;
 /// Two tones that were heard together.
 #[repr(C)]
 #[derive(Clone, Copy)]
-pub struct WebSight {
+pub struct PlainSight {
     /// The amplitude squared of the lower tone, where both were strongest.
     pub low_level: u64,
     /// The amplitude squared of the higher one.
@@ -28,9 +28,9 @@ pub struct WebSight {
 /// A key that was heard. A window of 80 samples begins with each 20th sample.
 #[repr(C)]
 #[derive(Clone, Copy)]
-pub struct WebHeard {
+pub struct PlainHeard {
     /// Its tones.
-    pub sight: WebSight,
+    pub sight: PlainSight,
     /// The number of the first window that saw it.
     pub first: u64,
     /// The number of the window after the last one that counted.
@@ -40,7 +40,7 @@ pub struct WebHeard {
 /// What an ear knows of a sound from its samples so far. All zeros is an ear before the first sample.
 #[repr(C)]
 #[derive(Clone, Copy)]
-pub struct WebEar {
+pub struct EarMemory {
     /// How many windows there were.
     pub at: u64,
     /// The first one of the run that goes on.
@@ -52,11 +52,11 @@ pub struct WebEar {
     /// How many windows after them saw none.
     pub away: u64,
     /// The pair of the run.
-    pub seen: WebSight,
+    pub seen: PlainSight,
     /// The key that sounds.
-    pub sounding: WebHeard,
+    pub sounding: PlainHeard,
     /// What stood out in the last 64 windows.
-    pub held: [WebSight; 64],
+    pub held: [PlainSight; 64],
     /// The least power that lay beside the six frequencies of late; 0 before the first window.
     pub least: u64,
     /// How many samples of the next window are there: fewer than 80.
@@ -65,38 +65,38 @@ pub struct WebEar {
     pub window: [i16; 80],
 }
 
-fn sight_of(web: WebSight) -> Option<Sight>
-    ensures { result ≡ sight_in web }
+fn sight_of(plain: PlainSight) -> Option<Sight>
+    ensures { result ≡ sight_in plain }
 {
-    if web.kind == 0 {
+    if plain.kind == 0 {
         return None;
     }
     Some(Sight {
         pair: Tone {
-            low: web.low,
-            high: web.high,
+            low: plain.low,
+            high: plain.high,
         },
-        low: web.low_level,
-        high: web.high_level,
+        low: plain.low_level,
+        high: plain.high_level,
     })
 }
 
-fn key_of(web: WebHeard) -> Option<Heard>
-    ensures { result ≡ key_in web }
+fn key_of(plain: PlainHeard) -> Option<Heard>
+    ensures { result ≡ key_in plain }
 {
     Some(Heard {
-        sight: sight_of(web.sight)?,
-        first: web.first,
-        past: web.past,
+        sight: sight_of(plain.sight)?,
+        first: plain.first,
+        past: plain.past,
     })
 }
 
-fn plain_sight(sight: Sight) -> WebSight
+fn plain_sight(sight: Sight) -> PlainSight
     ensures value { result ≡ plain_sight sight }
     ensures back { sight_in result ≡ Some sight }
 {
     let name = name_of(sight.pair);
-    WebSight {
+    PlainSight {
         low_level: sight.low,
         high_level: sight.high,
         low: sight.pair.low,
@@ -107,10 +107,10 @@ fn plain_sight(sight: Sight) -> WebSight
 }
 
 // Nothing that was heard.
-fn no_sight() -> WebSight
+fn no_sight() -> PlainSight
     ensures { result ≡ no_sight }
 {
-    WebSight {
+    PlainSight {
         low_level: 0,
         high_level: 0,
         low: 0,
@@ -120,7 +120,7 @@ fn no_sight() -> WebSight
     }
 }
 
-fn optional_sight(sight: Option<Sight>) -> WebSight
+fn optional_sight(sight: Option<Sight>) -> PlainSight
     ensures { sight_in result ≡ sight }
 {
     match sight {
@@ -130,33 +130,33 @@ fn optional_sight(sight: Option<Sight>) -> WebSight
 }
 
 // What stood out in windows.
-fn sights_of(web: &[WebSight; 64]) -> [Option<Sight>; 64]
-    ensures { result ≡ map sight_in web.now }
+fn sights_of(plain: &[PlainSight; 64]) -> [Option<Sight>; 64]
+    ensures { result ≡ map sight_in plain.now }
 {
     let mut sights = [None; 64];
     for n in 0..64 {
-        sights[n] = sight_of(web[n]);
+        sights[n] = sight_of(plain[n]);
     }
     sights
 }
 
 // The same in numbers.
-fn plain_sights(sights: &[Option<Sight>; 64]) -> [WebSight; 64]
+fn plain_sights(sights: &[Option<Sight>; 64]) -> [PlainSight; 64]
     ensures { map sight_in result ≡ sights.now }
 {
-    let mut web = [no_sight(); 64];
+    let mut plain = [no_sight(); 64];
     for n in 0..64 {
-        web[n] = optional_sight(sights[n]);
+        plain[n] = optional_sight(sights[n]);
     }
-    web
+    plain
 }
 
 /// A key in numbers.
-pub(crate) fn plain_key(key: Heard) -> WebHeard
+pub(crate) fn plain_key(key: Heard) -> PlainHeard
     ensures value { result ≡ plain_key key }
     ensures back { key_in result ≡ Some key }
 {
-    WebHeard {
+    PlainHeard {
         sight: plain_sight(key.sight),
         first: key.first,
         past: key.past,
@@ -164,12 +164,12 @@ pub(crate) fn plain_key(key: Heard) -> WebHeard
 }
 
 /// A key in numbers, if there is one.
-pub(crate) fn plain_optional(key: Option<Heard>) -> WebHeard
+pub(crate) fn plain_optional(key: Option<Heard>) -> PlainHeard
     ensures value { result ≡ plain_optional key }
     ensures back { key_in result ≡ key }
 {
     match key {
-        None => WebHeard {
+        None => PlainHeard {
             sight: no_sight(),
             first: 0,
             past: 0,
@@ -179,7 +179,7 @@ pub(crate) fn plain_optional(key: Option<Heard>) -> WebHeard
 }
 
 /// The receiver that knows what an ear does; `None` exactly where it is no ear.
-pub(crate) fn receiver_of(ear: &WebEar) -> Option<Receiver>
+pub(crate) fn receiver_of(ear: &EarMemory) -> Option<Receiver>
     ensures variant { IsSome result ↔ IsEar ear.now }
     ensures value { IfSome result (λ receiver. receiver ≡ receiving_in ear.now) }
 {
@@ -203,14 +203,14 @@ pub(crate) fn receiver_of(ear: &WebEar) -> Option<Receiver>
 }
 
 // An ear that knows what a receiver does.
-pub(crate) fn ear_of(receiver: &Receiver) -> WebEar
+pub(crate) fn ear_of(receiver: &Receiver) -> EarMemory
     ensures value { receiving_in result ≡ receiver.now }
     ensures ear { IsEar result }
 {
     let parts = receiver.parts();
     let window = parts.window;
     let held = plain_sights(&parts.held);
-    WebEar {
+    EarMemory {
         at: parts.hearing.at,
         first: parts.hearing.first,
         count: parts.hearing.count,

@@ -4,8 +4,8 @@ use Rattle.std.proofs.lemmas.Int.{to_z-of_z}
 use Rattle.xb_ear.specs.declared.hearing.Heard.{Heard}
 use Rattle.xb_ear.specs.Hearings.{listed}
 use Rattle.xb_ear.specs.Receivers.{HasReceived}
-use Rattle.mfweb.proofs.HeardSoFar.{heard-key, heard-nothing}
-use Rattle.mfweb.proofs.listening.hear_sample.Goals as goal
+use Rattle.xb_onward.proofs.HeardSoFar.{heard-key, heard-nothing}
+use Rattle.xb_onward.proofs.listening.hear_sample.Goals as goal
 
 pub returns-in-None-clause-hears : goal.returns-in-None-clause-hears
 returns-in-None-clause-hears c samples keys heard =

@@ -4,8 +4,8 @@ use Rattle.std.proofs.lemmas.List.{take_more, take_more_set}
 use Rattle.xb_ear.specs.declared.hearing.Heard.{Heard}
 use Rattle.xb_ear.specs.Hearings.{listed}
 use Rattle.xb_ear.specs.Receivers.{HasReceived, Receiving}
-use Rattle.mfweb.specs.declared.ears.WebHeard.{WebHeard}
-use Rattle.mfweb.specs.Ears.{HearsIn, plain_key}
+use Rattle.xb_onward.specs.declared.ear.PlainHeard.{PlainHeard}
+use Rattle.xb_onward.specs.Ears.{HearsIn, plain_key}
 
 -- before the first of the samples
 pub heard-none : (receiver : Receiving) (before : List ℤ) (keys : List Heard) → HasReceived receiver before keys
@@ -18,7 +18,7 @@ heard-none receiver before keys has = record {
       (subst (λ ks. HasReceived receiver before ks) (sym (append-nil keys)) has);
 }
 
-map-append : (f : Heard → WebHeard) (xs ys : List Heard) → map f (xs ++ ys) ≡ map f xs ++ map f ys
+map-append : (f : Heard → PlainHeard) (xs ys : List Heard) → map f (xs ++ ys) ≡ map f xs ++ map f ys
 map-append f [] ys = refl
 map-append f (x ∷ xs) ys = ap (λ zs. f x ∷ zs) (map-append f xs ys)
 
@@ -28,7 +28,7 @@ Takes old new x key =
     (samples : List ℤ) (keys : List Heard) → HasReceived old samples keys
     → HasReceived new (samples ++ x ∷ []) (keys ++ listed key)
 
-heard-more : (old new : Receiving) (samples : List ℤ) (x : ℤ) (keys : List Heard) (room : List WebHeard) (key : Option Heard)
+heard-more : (old new : Receiving) (samples : List ℤ) (x : ℤ) (keys : List Heard) (room : List PlainHeard) (key : Option Heard)
     → Takes old new x key → HearsIn old samples keys room
     → HearsIn new (samples ++ x ∷ []) keys (room ++ map plain_key (listed key))
 heard-more old new samples x keys room key takes heard = record {
@@ -40,21 +40,21 @@ heard-more old new samples x keys room key takes heard = record {
       (takes samples (keys ++ heard.keys) heard.received);
 }
 
-pub heard-nothing : (old new : Receiving) (samples : List ℤ) (x : ℤ) (keys : List Heard) (room : List WebHeard) (key : Option Heard)
+pub heard-nothing : (old new : Receiving) (samples : List ℤ) (x : ℤ) (keys : List Heard) (room : List PlainHeard) (key : Option Heard)
     → Takes old new x key → key ≡ None → HearsIn old samples keys room → HearsIn new (samples ++ x ∷ []) keys room
 heard-nothing old new samples x keys room key takes none heard =
     subst (λ ws. HearsIn new (samples ++ x ∷ []) keys ws)
     (ap (λ (k : Option Heard). room ++ map plain_key (listed k)) none ∙ append-nil room)
     (heard-more old new samples x keys room key takes heard)
 
-pub heard-key : (old new : Receiving) (samples : List ℤ) (x : ℤ) (keys : List Heard) (room : List WebHeard) (count : ℕ) (key : Option Heard) (given : Heard) (plain : WebHeard)
+pub heard-key : (old new : Receiving) (samples : List ℤ) (x : ℤ) (keys : List Heard) (room : List PlainHeard) (count : ℕ) (key : Option Heard) (given : Heard) (plain : PlainHeard)
     → Takes old new x key → key ≡ Some given → plain ≡ plain_key given → count < length room
     → HearsIn old samples keys (take count room)
     → HearsIn new (samples ++ x ∷ []) keys (take (count + 1) (set room count plain))
 heard-key old new samples x keys room count key given plain takes some is below heard =
     subst (λ ws. HearsIn new (samples ++ x ∷ []) keys ws)
     (ap (λ (k : Option Heard). take count room ++ map plain_key (listed k)) some
-    ∙ ap (λ (w : WebHeard). take count room ++ w ∷ []) (sym is)
+    ∙ ap (λ (w : PlainHeard). take count room ++ w ∷ []) (sym is)
     ∙ sym (take_more_set room count plain below))
     (heard-more old new samples x keys (take count room) key takes heard)
 

@@ -1,8 +1,8 @@
 use Rattle.std.proofs.Common.{◌++◌, List, ℤ, refl, subst, sym, take}
 use Rattle.xb_ear.specs.declared.hearing.Heard.{Heard}
 use Rattle.xb_ear.specs.Receivers.{HasReceived}
-use Rattle.mfweb.specs.Ears.{HearsIn}
-use Rattle.mfweb.proofs.listening.mfweb_hear.Goals as goal
+use Rattle.xb_onward.specs.Ears.{HearsIn}
+use Rattle.xb_onward.proofs.listening.hear_by_status.Goals as goal
 
 pub returns-clause-hears : goal.returns-clause-hears
 returns-clause-hears c done = record {

@@ -1,6 +1,6 @@
 // Which key a pair of tones is, in numbers.
 ghost use Rattle.std.specs.Prelude.{◌≡◌, ◌≢◌, Some};
-ghost use Rattle.mfweb.specs.Names.{name_of, name_of_key};
+ghost use Rattle.xb_onward.specs.Names.{name_of, name_of_key};
 
 use xb_model::{Key, Tone, key_of};
 

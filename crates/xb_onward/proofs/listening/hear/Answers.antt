@@ -3,9 +3,9 @@ use Rattle.std.specs.Int.{w16}
 use Rattle.std.proofs.lemmas.Int.{to_z-of_z}
 use Rattle.std.proofs.lemmas.List.{take_all}
 use Rattle.xb_ear.specs.declared.hearing.Heard.{Heard}
-use Rattle.mfweb.specs.Ears.{HearsIn}
-use Rattle.mfweb.proofs.HeardSoFar.{heard-none, one-more}
-use Rattle.mfweb.proofs.listening.hear.Goals as goal
+use Rattle.xb_onward.specs.Ears.{HearsIn}
+use Rattle.xb_onward.proofs.HeardSoFar.{heard-none, one-more}
+use Rattle.xb_onward.proofs.listening.hear.Goals as goal
 
 pub loop-taken-init : goal.loop-taken-init
 loop-taken-init c = (λ (before : List ℤ) (keys : List Heard) has. heard-none _ before keys has, omega arith)

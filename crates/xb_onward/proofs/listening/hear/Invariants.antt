@@ -1,8 +1,8 @@
 use Rattle.std.proofs.Common.{◌≤◌, ◌++◌, List, ℤ, length, take}
 use Rattle.xb_ear.specs.declared.hearing.Heard.{Heard}
 use Rattle.xb_ear.specs.Receivers.{HasReceived}
-use Rattle.mfweb.specs.Ears.{HearsIn}
-use Rattle.mfweb.proofs.listening.hear.Given as goal
+use Rattle.xb_onward.specs.Ears.{HearsIn}
+use Rattle.xb_onward.proofs.listening.hear.Given as goal
 
 abbrev pub invariant-loop-taken : goal.invariant-loop-taken
 invariant-loop-taken l =

@@ -1,7 +1,7 @@
 use Rattle.std.proofs.Common.{List, ℤ, refl, subst, sym}
 use Rattle.xb_ear.specs.declared.hearing.Heard.{Heard}
 use Rattle.xb_ear.specs.Receivers.{HasReceived}
-use Rattle.mfweb.proofs.listening.mfweb_heard.Goals as goal
+use Rattle.xb_onward.proofs.listening.heard_by_status.Goals as goal
 
 pub returns-clause-ends : goal.returns-clause-ends
 returns-clause-ends c done = record {
