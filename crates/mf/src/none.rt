@@ -58,7 +58,7 @@ fn no_program(word: &str) -> Misfit<'_>
     Misfit {
         option: "PROGRAM",
         value: word,
-        reason: "mf --help lists the programs",
+        reason: "it names no program",
     }
 }
 

@@ -1,7 +1,11 @@
 // How a command line is served.
-ghost use Rattle.std.specs.Prelude.{◌≡◌, true};
+ghost use Rattle.std.specs.Prelude.{◌≡◌, true, IfOk, OnErr};
+ghost use Rattle.std.specs.Process.{exit_status};
 ghost use Rattle.clap.specs.Faults.{is_simple_and_free};
 ghost use Rattle.xb_command.specs.Tables.{command_by};
+ghost use Rattle.xb_command.specs.declared.telling.TheConstants.{FAULT};
+ghost use Rattle.xb_process.specs.Processes.{Attends, Serves};
+ghost use Rattle.mf.specs.Served.{ServesBy, ServesLine};
 
 use crate::choice::{Choice, after_first, drop_first, first_program};
 use crate::none::{Nothing, PROGRAM};
@@ -19,6 +23,7 @@ fn attend_by_buffer<'a, Q: Work<'a>, W: Write, E: Write>(
     err: &mut E,
 ) -> u8
     requires { is_simple_and_free (command_by call.now.program.now) ≡ true }
+    ensures { Attends Q.rules call.now result }
 {
     let (alloc, files) = (rt.alloc(), SystemFiles { rt });
     match BufReader::new(alloc, rt.stdin()) {
@@ -34,6 +39,7 @@ fn serve_by_buffer<'a, Q: Work<'a>>(
     words: &'a io::Result<Vec<String>>,
 ) -> ExitCode
     requires { is_simple_and_free (command_by program.now) ≡ true }
+    ensures { IfOk words.now (λ these. Serves Q.rules program.now these.items (exit_status result)) }
 {
     serve_by(
         rt,
@@ -41,6 +47,7 @@ fn serve_by_buffer<'a, Q: Work<'a>>(
         words,
         |call, out, err| -> u8
             requires { is_simple_and_free (command_by call.now.program.now) ≡ true }
+            ensures { Attends Q.rules call.now result }
         { attend_by_buffer::<Q, _, _>(rt, call, out, err) },
     )
 }
@@ -72,7 +79,9 @@ fn serve_parts(rt: &HostRuntime, words: Vec<String>) -> ExitCode {
 }
 
 // Serves words by a program, whose name they begin with.
-fn serve_program(rt: &HostRuntime, program: Choice, words: Vec<String>) -> ExitCode {
+fn serve_program(rt: &HostRuntime, program: Choice, words: Vec<String>) -> ExitCode
+    ensures { ServesBy program words.items (exit_status result) }
+{
     match program {
         Choice::Bank => serve::<xb_office::Asked<'_>>(rt, &xb_office::PROGRAM, &Ok(words)),
         Choice::Bench => serve::<xb_bench::Asked<'_>>(rt, &xb_bench::PROGRAM, &Ok(words)),
@@ -92,7 +101,9 @@ fn serve_program(rt: &HostRuntime, program: Choice, words: Vec<String>) -> ExitC
 }
 
 // Serves the words of a command line.
-fn serve_words(rt: &HostRuntime, mut words: Vec<String>) -> ExitCode {
+fn serve_words(rt: &HostRuntime, mut words: Vec<String>) -> ExitCode
+    ensures { ServesLine words.items (exit_status result) }
+{
     if let Some(program) = first_program(&words) {
         return serve_program(rt, program, words);
     }
@@ -107,7 +118,10 @@ fn serve_words(rt: &HostRuntime, mut words: Vec<String>) -> ExitCode {
 /// Serves a command line: by the program whose name it begins with, or else by the one that its first word names, by the
 /// words from there on. One that names none is told help, the version, or why its first word is no program. Without
 /// words the stream of errors gets one line, which says why, and the status is `FAULT`.
-pub(crate) fn serve_line(rt: &HostRuntime, words: io::Result<Vec<String>>) -> ExitCode {
+pub(crate) fn serve_line(rt: &HostRuntime, words: io::Result<Vec<String>>) -> ExitCode
+    ensures served { IfOk words (λ these. ServesLine these.items (exit_status result)) }
+    ensures failed { OnErr words (exit_status result ≡ FAULT) }
+{
     match words {
         Ok(words) => serve_words(rt, words),
         Err(fault) => serve::<Nothing>(rt, &PROGRAM, &Err(fault)),
