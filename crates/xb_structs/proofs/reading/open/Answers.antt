@@ -19,7 +19,7 @@ returns-clause-opened c =
       c.in_ok-read.read,
       c.in_ok-read.ensures.ok,
       record {
-        plan = ap (λ n. plan_said n c.lengths_beside-table.result) c.plan_number-table.ensures ∙ c.lengths_beside-table.ensures ∙ ap Some c.plan.ensures;
+        plan = ap (λ n. plan_said n c.lengths_beside-table.result) c.plan_number-table.ensures ∙ c.lengths_beside-table.ensures ∙ ap Some c.plan-plan.ensures;
         limits = c.limits-limits.ensures.value;
         lawful = subst IsLawful c.limits-limits.ensures.value c.limits-limits.ensures.lawful;
         count = omega (arith, c.if-len-gt-MOST_ROUTES.false, c.len-2.ensures, c.len.ensures);
