@@ -12,6 +12,7 @@ static mf_mark marks[MF_MOST_MARKS];
 static size_t count;
 static char fault[MF_FAULT_ROOM];
 static int tried, wrong;
+enum { PIECE = 160 };
 
 static void check(int right, const char *what)
 {
@@ -84,6 +85,32 @@ static void try_room(void)
     check(marks[0].kind == MF_TRUNK && marks[0].value == 1 && marks[1].kind == MF_KP && marks[2].kind == MF_DIGIT &&
               marks[2].value == 0 && marks[3].kind == MF_ST,
           "the four marks");
+}
+
+/* What a row tells the register, with too little room and with enough, and rows that are wrong. */
+static void try_signals(void)
+{
+    static const mf_row pulse = {7, MF_BREAK, 60}, pause = {7, MF_MAKE, 600}, hung_up = {7, MF_BREAK, 300}, wrong_row = {7, 'X', 1};
+    mf_signal told[MF_MOST_SIGNALS] = {{99, 0, 0, {0}}};
+    mf_reopen(&line);
+    check(mf_signals(&table, &line, &good, told, 0, &count) == MF_NO_ROOM && count == 0, "no room for a signal");
+    check(mf_signals(&zeros, &line, &good, told, 2, &count) == MF_NOT_OPENED && count == 0, "no table for a signal");
+    check(mf_signals(&table, &line, &wrong_row, told, 2, &count) == MF_WRONG_STATE && count == 0, "a wrong state of a signal");
+    check(told[0].kind == 99, "signals that stay as they were");
+    check(mf_signals(&table, &line, &good, told, 2, &count) == MF_DONE && count == 1 && told[0].kind == 0, "a seizure is told");
+    check(mf_take(&table, &line, &good, marks, 4, &count) == MF_DONE, "and taken");
+    for (int pulses = 0; pulses < 2; pulses++) {
+        const mf_row gap = {7, MF_MAKE, 40};
+        check(mf_take(&table, &line, &pulse, marks, 4, &count) == MF_DONE, "a pulse");
+        if (pulses == 0)
+            check(mf_signals(&table, &line, &gap, told, 2, &count) == MF_DONE && count == 0 &&
+                      mf_take(&table, &line, &gap, marks, 4, &count) == MF_DONE, "no signal between pulses");
+    }
+    check(mf_signals(&table, &line, &pause, told, 2, &count) == MF_DONE && count == 1, "a digit is told");
+    check(told[0].kind == 1 && told[0].breaks == 2 && told[0].bad == 0 && memcmp(told[0].elements, "\1\0\1\0\0", 5) == 0,
+          "a 2, by the elements 0 and 2");
+    check(mf_take(&table, &line, &pause, marks, 4, &count) == MF_DONE, "which is taken");
+    check(mf_signals(&table, &line, &hung_up, told, 2, &count) == MF_DONE && count == 1 && told[0].kind == 3, "a release");
 }
 
 /* What was heard on line 7 is refused with this status: the line and the marks are as they were. */
@@ -198,6 +225,59 @@ static void try_sounds(void)
     check(mf_sound(&refusal, &sender, samples, 0, &count) == MF_DONE && count == 0, "a refusal is not heard");
 }
 
+/* Bytes by a seed. */
+static void scatter(void *place, size_t len, uint32_t *seed)
+{
+    unsigned char *const bytes = place;
+    for (size_t i = 0; i < len; i++) {
+        *seed = *seed * 1664525u + 1013904223u;
+        bytes[i] = (unsigned char)(*seed >> 24);
+    }
+}
+
+/* The sound of a trunk: ears that are none, and any bytes as an ear; a register and an office with too little room. */
+static void try_trunk(void)
+{
+    static const int16_t samples[PIECE];
+    static const mf_key kp = {500, 600, MF_KP, 0};
+    mf_ear ear, before;
+    mf_heard heard[2] = {{{1, 2, 700, 900, MF_DIGIT, 1}, 3, 4}}, there = heard[0];
+    mf_outcome outcome[2] = {{99, 0, {0}}};
+    size_t taken = 99;
+    uint32_t seed = 1;
+    check(mf_begin_ear(&ear) == MF_DONE, "an ear");
+    check(mf_hear(&ear, samples, PIECE, heard, 0, &taken, &count) == MF_DONE && taken == 0 && count == 0,
+          "no sample is taken where no key has room");
+    check(mf_hear(&ear, samples, PIECE, heard, 1, &taken, &count) == MF_DONE && taken == PIECE && count == 0, "silence");
+    check(mf_heard_last(&ear, &heard[1]) == MF_DONE && heard[1].sight.kind == 0, "no key sounds in silence");
+    ear.filled = 80;
+    memcpy(&before, &ear, sizeof ear);
+    check(mf_hear(&ear, samples, PIECE, heard, 1, &taken, &count) == MF_NO_EAR && taken == 0 && count == 0, "no ear");
+    check(mf_heard_last(&ear, &heard[0]) == MF_NO_EAR, "no key of what is no ear");
+    check(memcmp(&before, &ear, sizeof ear) == 0 && memcmp(&there, &heard[0], sizeof there) == 0, "which stays as it was");
+    for (int trial = 0; trial < 2000; trial++) {
+        scatter(&ear, sizeof ear, &seed);
+        ear.filled %= 80;
+        check(mf_hear(&ear, samples, PIECE, heard, 2, &taken, &count) == MF_DONE && count <= 2 &&
+                  (taken == PIECE || count == 2), "bytes that no ear wrote");
+    }
+    count = 99;
+    check(mf_register(&kp, 1, 1, outcome, 1, &count) == MF_NO_ROOM && count == 0, "as many rooms as keys");
+    check(outcome[0].kind == 99, "which stay as they were");
+    check(mf_register(&kp, 1, 0, outcome, 2, &count) == MF_DONE && count == 0, "a keying that is open");
+    check(mf_register(&kp, 1, 1, outcome, 2, &count) == MF_DONE && count == 1, "and where the keys end");
+    check(outcome[0].kind == MF_ABANDONED && outcome[0].count == 0, "it is abandoned");
+    check(mf_send_on(&zeros, outcome, marks, 4, &count) == MF_NOT_OPENED && count == 0, "no table to send on by");
+    check(mf_send_on(&table, outcome, marks, 0, &count) == MF_NO_ROOM && count == 0, "no room for a refusal");
+    check(mf_send_on(&table, outcome, marks, 1, &count) == MF_DONE && count == 1, "a refusal that goes on");
+    check(marks[0].kind == MF_ABANDONED && marks[0].line == 0, "its mark");
+    for (int trial = 0; trial < 2000; trial++) {
+        scatter(outcome, sizeof *outcome, &seed);
+        check(mf_send_on(&table, outcome, marks, MF_MOST_MARKS, &count) == MF_DONE && count >= 1 && count <= MF_MOST_MARKS,
+              "an outcome that no register wrote");
+    }
+}
+
 /* The letters of a dial, and what is none. */
 static void try_letters(void)
 {
@@ -220,6 +300,32 @@ static void try_nulls(void)
     uint32_t entries;
     mf_cadence cadence = {500, 100, 68, 68};
     int16_t sample = 0;
+    mf_signal told;
+    mf_ear ear = {0};
+    mf_heard heard;
+    mf_key key = {0, 0, MF_KP, 0};
+    mf_outcome outcome = {0, 0, {0}};
+    size_t taken;
+    check(mf_signals(NULL, &line, &good, &told, 1, &count) == MF_NULL, "no table of a signal");
+    check(mf_signals(&table, NULL, &good, &told, 1, &count) == MF_NULL, "no line of a signal");
+    check(mf_signals(&table, &line, NULL, &told, 1, &count) == MF_NULL, "no row of a signal");
+    check(mf_signals(&table, &line, &good, NULL, 0, &count) == MF_NULL, "no room for signals");
+    check(mf_signals(&table, &line, &good, &told, 1, NULL) == MF_NULL, "no count of signals");
+    check(mf_begin_ear(NULL) == MF_NULL, "no ear to begin");
+    check(mf_hear(NULL, &sample, 1, &heard, 1, &taken, &count) == MF_NULL, "no ear");
+    check(mf_hear(&ear, NULL, 0, &heard, 1, &taken, &count) == MF_NULL, "no samples to hear");
+    check(mf_hear(&ear, &sample, 1, NULL, 0, &taken, &count) == MF_NULL, "no room for a key");
+    check(mf_hear(&ear, &sample, 1, &heard, 1, NULL, &count) == MF_NULL, "no count of samples that are taken");
+    check(mf_hear(&ear, &sample, 1, &heard, 1, &taken, NULL) == MF_NULL, "no count of keys");
+    check(mf_heard_last(NULL, &heard) == MF_NULL, "no ear at its end");
+    check(mf_heard_last(&ear, NULL) == MF_NULL, "no place for its key");
+    check(mf_register(NULL, 0, 1, &outcome, 1, &count) == MF_NULL, "no keys");
+    check(mf_register(&key, 0, 1, NULL, 0, &count) == MF_NULL, "no room for an outcome");
+    check(mf_register(&key, 0, 1, &outcome, 1, NULL) == MF_NULL, "no count of outcomes");
+    check(mf_send_on(NULL, &outcome, marks, 4, &count) == MF_NULL, "no table to send on by");
+    check(mf_send_on(&table, NULL, marks, 4, &count) == MF_NULL, "no outcome");
+    check(mf_send_on(&table, &outcome, NULL, 0, &count) == MF_NULL, "no marks to send on");
+    check(mf_send_on(&table, &outcome, marks, 4, NULL) == MF_NULL, "no count of marks to send on");
     check(mf_digit_of('A', NULL) == MF_NULL, "no place for a digit");
     check(mf_entry(1, NULL, 0, fault, sizeof fault) == MF_NULL, "no marks of an entry");
     check(mf_entry(1, marks, 1, NULL, 0) == MF_NULL, "no room for an entry");
@@ -275,16 +381,6 @@ static void try_texts(void)
     check(mf_open("plan = 8\n", 9, &table, few, 0) == MF_WRONG_PLAN, "no room for a fault");
 }
 
-/* Bytes by a seed. */
-static void scatter(void *place, size_t len, uint32_t *seed)
-{
-    unsigned char *const bytes = place;
-    for (size_t i = 0; i < len; i++) {
-        *seed = *seed * 1664525u + 1013904223u;
-        bytes[i] = (unsigned char)(*seed >> 24);
-    }
-}
-
 /* Any bytes are some line, and some table or none that was opened: each call ends, and gives lawful marks. */
 static void try_bytes(void)
 {
@@ -296,6 +392,8 @@ static void try_bytes(void)
             scatter(&scattered, sizeof scattered, &seed);
         if (trial % 2 == 0)
             memcpy(&scattered, &table, offsetof(mf_table, count));
+        if (trial % 4 == 2)
+            scattered.plan = 1; /* numbers as long as the bytes behind the routes say */
         scattered.count = trial % 4 < 3 ? seed % (MF_MOST_ROUTES + 1) : seed;
         scatter(&line, sizeof line, &seed);
         line.phase = (uint8_t)(line.phase % 8);
@@ -318,10 +416,12 @@ int main(void)
     check(mf_open(routes, strlen(routes), &table, fault, sizeof fault) == MF_DONE && !*fault, "a good table");
     try_rows();
     try_room();
+    try_signals();
     try_digits();
     try_nulls();
     try_texts_of();
     try_sounds();
+    try_trunk();
     try_letters();
     try_texts();
     try_bytes();

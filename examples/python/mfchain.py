@@ -8,6 +8,13 @@ An `Office` takes what the loops of its lines do, and gives each mark the moment
 
 Or it is told what was heard on a line, by `seize`, `digit`, `mutilated_digit`, `time_out` and `release`.
 
+An `Ear` hears the MF keys of a sound, and a `Register` takes them for the office:
+
+    ear, register = Ear(office), Register(office)
+    for key in ear.hear(samples):
+        for marks in register.take(key):
+            print(marks)
+
 Needs Python 3.8 and no package. The shared object is made by `make` in examples/c, as
 libmfchain.so, and by scripts/install, whose is found without its path.
 """
@@ -22,7 +29,9 @@ __version__ = "0.5"
 LIBRARY = "libmfchain.so.0"
 LINES = 10000
 MOST_MARKS = 24
+MOST_SIGNALS = 2
 MOST_ROUTES = 1000
+LENGTHS = 1110
 MOST_DIGITS = 10
 FAULT_ROOM = 64
 ENTRY_ROOM = 1025
@@ -32,9 +41,16 @@ RATE = 8000
 KINDS = ("TRUNK", "DIGIT", "KP", "ST", "MUTILATED", "UNKNOWN", "ABANDONED", "TIMEDOUT")
 """What a mark is, by its number in C. The last four are refusals, each an entry by itself."""
 
+SIGNALS = ("SEIZED", "DIGIT", "TIMEDOUT", "RELEASED", "CLOSED")
+"""What a row tells the register, by its number in C."""
+
 NO_MEMORY, NOT_OPENED, WRONG_LINE, WRONG_STATE, WRONG_MS, NO_ROOM = 1, 3, 4, 5, 6, 7
 WRONG_DIGIT, CLOSED, SEIZED, NOT_SEIZED, INCOMPLETE = 19, 20, 21, 22, 23
 WRONG_MARKS, WRONG_CADENCE, WRONG_CHARACTER = 24, 25, 26
+
+KEYS = ("", "DIGIT", "KP", "ST", "OTHER")
+"""What a key that was heard is, by its number in C. OTHER is a pair of tones that is none of the others."""
+ROOM = 16
 
 
 class TableError(ValueError):
@@ -70,6 +86,28 @@ class Mark(NamedTuple):
     value: int
     low: int
     high: int
+
+
+class Signal(NamedTuple):
+    """What a row tells the register: `kind` is one of `SIGNALS`. Of a digit its breaks, whether a time in it is wrong, and
+    which of the elements 0, 1, 2, 4 and 7 operate."""
+
+    kind: str
+    breaks: int
+    bad: bool
+    elements: tuple
+
+
+class Key(NamedTuple):
+    """A key that was heard: `kind` is one of `KEYS`, `value` the digit; its two tones in Hz; and when it began and ended,
+    in ms from the beginning of the sound."""
+
+    kind: str
+    value: int
+    low: int
+    high: int
+    begin_ms: int
+    end_ms: int
 
 
 class Cadence(NamedTuple):
@@ -109,7 +147,33 @@ class _Route(ctypes.Structure):
 
 
 class _Table(ctypes.Structure):
-    _fields_ = [("head", ctypes.c_uint32 * 8), ("routes", _Route * MOST_ROUTES)]
+    _fields_ = [("head", ctypes.c_uint32 * 8), ("routes", _Route * MOST_ROUTES), ("lengths", ctypes.c_uint8 * LENGTHS)]
+
+
+class _Signal(ctypes.Structure):
+    _fields_ = [*((name, ctypes.c_uint8) for name in ("kind", "breaks", "bad")), ("elements", ctypes.c_uint8 * 5)]
+
+
+class _Heard(ctypes.Structure):
+    _fields_ = [
+        ("levels", ctypes.c_uint64 * 2),
+        *((name, ctypes.c_uint16) for name in ("low", "high", "kind", "value")),
+        ("first", ctypes.c_uint64),
+        ("past", ctypes.c_uint64),
+    ]
+
+
+class _Ear(ctypes.Structure):
+    _fields_ = [("state", ctypes.c_uint64 * 227)]
+
+
+class _Key(ctypes.Structure):
+    _fields_ = [(name, kind) for name, kind in (
+        ("begin_ms", ctypes.c_uint64), ("end_ms", ctypes.c_uint64), ("kind", ctypes.c_uint8), ("digit", ctypes.c_uint8))]
+
+
+class _Outcome(ctypes.Structure):
+    _fields_ = [("kind", ctypes.c_uint8), ("count", ctypes.c_uint8), ("digits", ctypes.c_uint8 * MOST_DIGITS)]
 
 
 def _declare(library: ctypes.CDLL) -> None:
@@ -119,6 +183,8 @@ def _declare(library: ctypes.CDLL) -> None:
     library.mfchain_open.restype = number
     library.mfchain_take.argtypes = [address, address, address, address, size, address]
     library.mfchain_take.restype = number
+    library.mfchain_signals.argtypes = [address, address, address, address, size, address]
+    library.mfchain_signals.restype = number
     library.mfchain_reopen.argtypes = [address]
     library.mfchain_reopen.restype = None
     library.mfchain_entries.argtypes = [address]
@@ -137,6 +203,14 @@ def _declare(library: ctypes.CDLL) -> None:
     library.mfchain_cadence.restype = None
     library.mfchain_sound.argtypes = [address, address, address, size, address]
     library.mfchain_sound.restype = number
+    library.mfchain_hear.argtypes = [address, address, size, address, size, address, address]
+    library.mfchain_hear.restype = number
+    library.mfchain_heard.argtypes = [address, address]
+    library.mfchain_heard.restype = number
+    library.mfchain_incoming.argtypes = [address, size, number, address, size, address]
+    library.mfchain_incoming.restype = number
+    library.mfchain_onward.argtypes = [address, address, address, size, address]
+    library.mfchain_onward.restype = number
     library.mfchain_status_text.argtypes = [number, ctypes.c_char_p, size]
     library.mfchain_status_text.restype = number
     for name in ("seize", "mutilated_digit", "time_out", "release"):
@@ -209,15 +283,26 @@ class Office:
         where the row is refused; the line is then as it was."""
         table, at, room, count = self._places
         known = self._known(line, RowError)
-        row = self._row
         with self._lock:
-            row.line = line
-            row.state = ord(state) if isinstance(state, str) and len(state) == 1 else 0
-            row.ms = ms if _is_number(ms) else 0xFFFFFFFF
+            self._put_row(line, state, ms)
             status = self._library.mfchain_take(table, known, at, room, MOST_MARKS, count)
             if status:
                 raise self._refusal(status, RowError)
             return self._given()
+
+    def signals(self, line: int, state: str, ms: int) -> list:
+        """What a row will tell the register of its line, for lamps: ask before `take`. Raises `RowError` as that does."""
+        table, at, _, count = self._places
+        known, told = self._known(line, RowError), (_Signal * MOST_SIGNALS)()
+        with self._lock:
+            self._put_row(line, state, ms)
+            status = self._library.mfchain_signals(table, known, at, ctypes.addressof(told), MOST_SIGNALS, count)
+            if status:
+                raise self._refusal(status, RowError)
+            return [
+                Signal(SIGNALS[it.kind], it.breaks, bool(it.bad), tuple(map(bool, it.elements)))
+                for it in told[: self._count.value]
+            ]
 
     def close(self, line: int) -> list:
         """Ends the record of a line, which gives no more marks until it is reopened."""
@@ -286,6 +371,15 @@ class Office:
             raise self._refusal(status, SignalError)
         return digit.value
 
+    def onward(self, outcome: "_Outcome") -> list:
+        """The marks by which the office sends on what its register told, on line 0."""
+        table, _, room, count = self._places
+        with self._lock:
+            status = self._library.mfchain_onward(table, ctypes.addressof(outcome), room, MOST_MARKS, count)
+            if status:
+                raise self._refusal(status)
+            return self._given()
+
     def entry(self, marks: list, number: int) -> str:
         """The line of an entry as a page has it: entry `number` of the line of these marks, which one call gave. Raises
         `OfficeError` where they are not the marks of an entry."""
@@ -321,6 +415,12 @@ class Office:
         self._library.mfchain_status_text(status, text, FAULT_ROOM)
         return text.value.decode()
 
+    def _put_row(self, line: int, state: str, ms: int) -> None:
+        """Writes a row as C takes it; what is none is one that C refuses."""
+        self._row.line = line
+        self._row.state = ord(state) if isinstance(state, str) and len(state) == 1 else 0
+        self._row.ms = ms if _is_number(ms) else 0xFFFFFFFF
+
     def _refusal(self, status: int, refusal: type = OfficeError) -> OfficeError:
         """What is raised for a status."""
         return refusal(status, self.status_text(status))
@@ -347,3 +447,66 @@ class Office:
         if not _is_number(line, LINES - 1):
             raise self._refusal(WRONG_LINE, refusal)
         return ctypes.addressof(self._lines) + ctypes.sizeof(_Line) * line
+
+
+class Ear:
+    """Hears the MF keys of one sound, which comes in parts of any lengths: samples of 16 bits, 8,000 a second."""
+
+    def __init__(self, office: Office):
+        self._library, self._ear = office._library, _Ear()
+
+    def hear(self, samples: array) -> list:
+        """The keys that these samples end, an array of type `h`."""
+        if not isinstance(samples, array) or samples.typecode != "h":
+            raise TypeError("samples are an array of type h")
+        room, counts, keys = (_Heard * ROOM)(), (ctypes.c_size_t * 2)(), []
+        start, length = samples.buffer_info()
+        size, count_at = samples.itemsize, ctypes.addressof(counts) + ctypes.sizeof(ctypes.c_size_t)
+        while length > 0:
+            self._library.mfchain_hear(ctypes.addressof(self._ear), start, length, ctypes.addressof(room), ROOM,
+                                       ctypes.addressof(counts), count_at)
+            start, length = start + size * counts[0], length - counts[0]
+            keys += map(_key_of, room[: counts[1]])
+        return keys
+
+    def end(self) -> list:
+        """The key that sounds where the samples end, if there is one."""
+        key = _Heard()
+        self._library.mfchain_heard(ctypes.addressof(self._ear), ctypes.addressof(key))
+        return [_key_of(key)] if key.kind else []
+
+
+def _key_of(heard: _Heard) -> Key:
+    """A key with its times, as `mfrx` tells them."""
+    begin = (20 * heard.first + 20) // 8
+    end = begin + (20 * (heard.past - heard.first) + 20) // 8
+    return Key(KEYS[heard.kind], heard.value, heard.low, heard.high, begin, end)
+
+
+class Register:
+    """The incoming register of an office, which takes the keys of one sound."""
+
+    def __init__(self, office: Office):
+        self._office, self._keys, self._told = office, [], 0
+
+    def take(self, key: Key) -> list:
+        """What a key makes certain, as the marks of each entry: a number that goes on, or its refusal. Mostly none."""
+        self._keys.append(key)
+        entries = self._tell(0)
+        # nothing later depends on keys up to such an ST, nor on any but a KP where none is open
+        if entries and key.kind == "ST" or len(self._keys) == 1 and key.kind != "KP":
+            self._keys, self._told = [], 0
+        return entries
+
+    def end(self) -> list:
+        """The same, where no more keys come: of a keying that is open."""
+        return self._tell(1)
+
+    def _tell(self, ended: int) -> list:
+        """The marks of the outcomes that were not told yet."""
+        keys = (_Key * len(self._keys))(*((key.begin_ms, key.end_ms, KEYS.index(key.kind), key.value) for key in self._keys))
+        room, count = (_Outcome * (len(keys) + 1))(), ctypes.c_size_t()
+        self._office._library.mfchain_incoming(ctypes.addressof(keys), len(keys), ended, ctypes.addressof(room), len(room),
+                                               ctypes.addressof(count))
+        new, self._told = room[self._told : count.value], count.value
+        return [self._office.onward(outcome) for outcome in new]

@@ -62,7 +62,7 @@ def summary_of(line, digits):
     """What digits come to."""
     sums = {"event": "SUMMARY", "line": line, "digits": len(digits), "spoiled": sum(it["digit"] is None for it in digits)}
     for name in "speed_tenths", "open_permille":
-        sums[name] = series_of([it[name] for it in digits if it[name] is not None])
+        sums[name] = series_of([it[name] for it in digits if it[name] is not None and it["digit"] is not None])
     sums["bounce_ms_tenths"] = max((it["bounce_ms_tenths"] for it in digits), default=0)
     sums["verdicts"] = {name: sum(it["verdict"] == name for it in digits) for name in NAMES}
     return sums
@@ -72,9 +72,10 @@ def summary_line(it):
     """The line of what digits come to."""
     speed, share = it["speed_tenths"], it["open_permille"]
     given = "".join(f"; {name} {it['verdicts'][name]}" for name in NAMES if it["verdicts"][name])
+    question = "" if it["digits"] else "; no digit: is the wire the other way round (--inverted)?"
     return (
         f"{it['line']:04}  digits {it['digits']}, spoiled {it['spoiled']}; p/s {tenths(speed['mean'])} ({extent(speed)})"
-        f"; % break {tenths(share['mean'])} ({extent(share)}); bounce {tenths(it['bounce_ms_tenths'])} ms{given}"
+        f"; % break {tenths(share['mean'])} ({extent(share)}); bounce {tenths(it['bounce_ms_tenths'])} ms{given}{question}"
     )
 
 

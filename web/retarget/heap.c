@@ -1,6 +1,7 @@
-/* A heap for the page's reader, in plain C: free lists of blocks of 2^n bytes, over what follows the page's own memory. It grows
- * the module's memory, up to a limit of the page's. Not proved; it stands for malloc, realloc and free, which a library
- * with `Global` calls by these three names. The page calls mfheap_begin before each call that takes memory. */
+/* A heap for WebAssembly, in plain C: free lists of blocks of 2^n bytes, over what follows the module's own memory. It
+ * grows that memory, by a quarter at least where it may, up to a limit of the host's. Not proved; it stands for malloc,
+ * realloc and free, which code with `Global` calls by these three names. The page calls mfheap_begin before each call
+ * that takes memory. */
 typedef unsigned long usize; /* 64 bits on wasm64 */
 struct taken { usize is_there; void *at; }; /* as code for aarch64 reads it: [2 x i64] */
 #define EXPORT(name) __attribute__((export_name(#name)))
@@ -22,6 +23,9 @@ EXPORT(mfheap_end) usize mfheap_end(void) { return next; }
 
 static int class_of(usize bytes) { return bytes <= 32 ? 5 : 64 - __builtin_clzll(bytes - 1); }
 
+/* In the lowered copy the -1 of a refusal has 32 bits. */
+static int grows(usize pages) { return (unsigned)__builtin_wasm_memory_grow(0, pages) != ~0U; }
+
 static void *take(usize bytes) {
     if (bytes > (1UL << 40)) return 0;
     int c = class_of(bytes + HEAD);
@@ -33,8 +37,10 @@ static void *take(usize bytes) {
     usize size = 1UL << c;
     if (size > greatest - next) return 0;
     usize end = next + size, have = __builtin_wasm_memory_size(0) * PAGE;
-    /* In the lowered copy the -1 of a refusal has 32 bits. */
-    if (end > have && (unsigned)__builtin_wasm_memory_grow(0, (end - have + PAGE - 1) / PAGE) == ~0U) return 0;
+    if (end > have) {
+        usize more = (end - have + PAGE - 1) / PAGE, quarter = have / PAGE / 4;
+        if ((quarter <= more || !grows(quarter)) && !grows(more)) return 0;
+    }
     b = (char *)next;
     next = end;
     *(int *)b = c;

@@ -228,7 +228,7 @@ const TABLE_OF_SHORT_BREAKS = `[limits]\npulse_max = 50\n${TABLE_OF_611}`;
 const ENTRY_OF_611 = '0007 1 KEYED 0611 KP:1100+1700 9:1100+1500 6:1100+1300 1:700+900 1:700+900 ST:1500+1700';
 
 const MISSPELLED =
-  'Line 1, column 1: no rule names this key; here are plan, limits and route (did you mean plan?): plam = 7';
+  'Line 1, column 1: no rule names this key; here are plan, limits, number and route (did you mean plan?): plam = 7';
 
 // Each with its fault, and with the text line that a person found.
 const FAULTY_TABLES = [
@@ -238,7 +238,7 @@ const FAULTY_TABLES = [
   ['[limits]\n  pause = 0', 'limit 4 is wrong',
     'Line 2, column 3: the limit is not a whole number of 1 to 1000000 ms:   pause = 0'],
   ['[[route]]\ncode = "2345"\ntrunk = 1', 'route 1 has a wrong code',
-    'Line 2, column 1: the code is not 0, NNX or N11, nor one of plan 10: code = "2345"'],
+    'Line 2, column 1: the code is not 0, NNX or N11, nor one of plan 10; by [[number]] it is not 1 to 9 digits of a number: code = "2345"'],
   ['[[route]]\ntrunk = 1', 'route 1 has a wrong shape',
     'Line 1, column 1: this route lacks code or trunk, or one of its keys has another kind of value: [[route]]'],
   ['[[route]]\ncode = "234"\ntrunk = 10000', 'route 1 has a wrong trunk',

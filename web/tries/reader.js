@@ -69,7 +69,7 @@ const PLACES = [
     'deck:5:1: an earlier route has this code: code = "0"'],
 ];
 const MISSPELLED = ['plam = 10',
-  'deck:1:1: no rule names this key; here are plan, limits and route (did you mean plan?): plam = 10'];
+  'deck:1:1: no rule names this key; here are plan, limits, number and route (did you mean plan?): plam = 10'];
 
 // The lines that come with a table's fault.
 function toldWithFault(reader, text) {

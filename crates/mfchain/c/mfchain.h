@@ -1,12 +1,14 @@
-/* The dialling chain of a No. 5 Crossbar office, one row or one digit at a time, in the caller's own memory.
+/* The dialling chain of a No. 5 Crossbar office, one row or one digit at a time, and the register of the next office,
+   which hears its keys, in the caller's own memory.
 
    The library keeps nothing between two calls, starts no thread and, but for mf_open, takes no memory. Calls
    on different lines may be made at the same time, by one table or several.
 
    What the caller owes, since no C library can test it: a pointer that is not null points to an object of its
    type, or to as many as the length beside it says, and what a call writes overlaps nothing else that the call
-   is given. What the bytes there say makes no call unsafe: any bytes in a line are some state of a line, and any
-   bytes in a table are refused, or give some marks; which ones is known of a table that mf_open wrote. */
+   is given. What the bytes there say makes no call unsafe: any bytes in a line are some state of a line, any bytes in
+   an ear are refused or have heard something, and any bytes in a table are refused, or give some marks; which ones is
+   known of a table that mf_open wrote. */
 #ifndef MFCHAIN_H
 #define MFCHAIN_H
 
@@ -29,8 +31,14 @@ extern "C" {
 /* The most marks that one row gives: room for so many is always enough. */
 #define MF_MOST_MARKS 24
 
+/* The most signals that one row tells. */
+#define MF_MOST_SIGNALS 2
+
 /* The most routes of a table. */
 #define MF_MOST_ROUTES 1000
+
+/* The lengths of numbers in a table: of each digit, of each two and of each three. */
+#define MF_LENGTHS 1110
 
 /* The most digits of a number: room for those of mf_dialled. */
 #define MF_MOST_DIGITS 10
@@ -57,7 +65,7 @@ enum mf_status {
     MF_WRONG_STATE = 5,     /* the state is none of MF_MAKE, MF_BREAK and MF_CLOSE */
     MF_WRONG_MS = 6,        /* the time is over a day, or a close has one */
     MF_NO_ROOM = 7,         /* there are more marks, bytes or samples than there is room for */
-    /* of a table's text; the text of the fault says of which limit or route */
+    /* of a table's text; the text of the fault says of which limit, route or entry of numbers */
     MF_NOT_TOML = 8,        /* it is not TOML */
     MF_WRONG_PLAN = 9,      /* `plan` is neither 7 nor 10 */
     MF_WRONG_LIMIT = 10,    /* a limit is wrong */
@@ -78,7 +86,18 @@ enum mf_status {
     /* of what is shown, played or written as a letter */
     MF_WRONG_MARKS = 24,    /* these are not the marks of an entry */
     MF_WRONG_CADENCE = 25,  /* a time of the cadence is out of its range */
-    MF_WRONG_CHARACTER = 26 /* the character is no digit and no letter of the dial */
+    MF_WRONG_CHARACTER = 26, /* the character is no digit and no letter of the dial */
+    /* of what an ear hears; 27 is of the page in a browser alone */
+    MF_NO_EAR = 28,          /* the bytes are no ear: it has more samples than it ever keeps */
+    /* of a table's text, too */
+    MF_PLAN_AND_NUMBER = 29, /* it has both `plan` and `number` */
+    MF_MANY_NUMBERS = 30,    /* it has more than 100 entries of numbers */
+    MF_NUMBER_SHAPE = 31,    /* an entry of numbers lacks a key, or has one of another kind */
+    MF_NUMBER_BEGINS = 32,   /* the `begins` of an entry is not 0 to 3 digits */
+    MF_NUMBER_DIGITS = 33,   /* the `digits` of an entry is not 1 to 10 */
+    MF_NUMBER_SHORT = 34,    /* an entry has fewer digits than it begins with */
+    MF_NUMBER_TWICE = 35,    /* two entries begin with the same digits */
+    MF_NUMBER_OUTGROWN = 36  /* an entry has fewer digits than another begins with that goes on from it */
 };
 
 /* What the loop of a line does. */
@@ -111,6 +130,13 @@ typedef struct {
     uint32_t line, kind, value, low, high;
 } mf_mark;
 
+/* What a row tells the register: 0 a call attempt begins, 1 a digit ends, 2 nothing came for too long, 3 the line is
+   released, 4 its record ends. Of a digit: how many breaks it has, whether a time in it is wrong, and which of the elements
+   0, 1, 2, 4 and 7 operate, each 1 or 0; none does where it is no digit. */
+typedef struct {
+    uint8_t kind, breaks, bad, elements[5];
+} mf_signal;
+
 /* How long tones last, and the silences between them, each in ms: the silence before KP (0 to 60000), the tone of KP (58
    to 10000), that of a digit and of ST (46 to 10000), and the silence after each tone (38 to 10000). */
 typedef struct {
@@ -135,7 +161,47 @@ typedef struct {
 typedef struct {
     uint32_t plan, pulse_min, pulse_max, make_min, pause, release, timeout, count;
     mf_route routes[MF_MOST_ROUTES];
+    uint8_t lengths[MF_LENGTHS];
 } mf_table;
+
+/* Two tones that an ear heard together: the amplitude squared of each where both were strongest, their frequencies in Hz,
+   and which key they are: `kind` is MF_DIGIT with the digit in `value`, MF_KP, MF_ST, or 4 for a pair that is none of
+   these; 0 where nothing was heard. */
+typedef struct {
+    uint64_t low_level, high_level;
+    uint16_t low, high, kind, value;
+} mf_sight;
+
+/* A key that was heard. An ear looks at windows of 80 samples, one of which begins with each 20th sample: `first` is the
+   first one that saw the key, from 0, and `past` the one after the last. mf_key_of has its times. */
+typedef struct {
+    mf_sight sight;
+    uint64_t first, past;
+} mf_heard;
+
+/* What an ear knows of a sound from its samples so far. All zeros is an ear before the first sample. What the fields
+   are, a caller need not know. */
+typedef struct {
+    uint64_t at, first, count, part, away;
+    mf_sight seen;
+    mf_heard sounding;
+    mf_sight held[64];
+    uint64_t least;
+    uint32_t filled;
+    int16_t window[80];
+} mf_ear;
+
+/* A key with its times, in ms from the beginning of its sound; `kind` and `digit` as `kind` and `value` of a sight. */
+typedef struct {
+    uint64_t begin_ms, end_ms;
+    uint8_t kind, digit;
+} mf_key;
+
+/* What became of a keying: `kind` is MF_MUTILATED to MF_TIMEDOUT where there is no number, and else 0; `count` says how many
+   digits there were, where 255 stands for more, too; of a number these are in `digits`. */
+typedef struct {
+    uint8_t kind, count, digits[MF_MOST_DIGITS];
+} mf_outcome;
 
 /* The library's own entries: no pointer may be null, not even where its length is 0. */
 uint32_t mfchain_open(const uint8_t *text, size_t text_len, mf_table *table, uint8_t *fault, size_t fault_len);
@@ -143,6 +209,8 @@ uint32_t mfchain_take(const mf_table *table, mf_line *line, const mf_row *row, m
                       size_t *count);
 uint32_t mfchain_close(const mf_table *table, mf_line *line, uint32_t number, mf_mark *room, size_t room_len,
                        size_t *count);
+uint32_t mfchain_signals(const mf_table *table, const mf_line *line, const mf_row *row, mf_signal *room,
+                         size_t room_len, size_t *count);
 void mfchain_reopen(mf_line *line);
 uint32_t mfchain_entries(const mf_line *line);
 uint32_t mfchain_seize(const mf_table *table, mf_line *line, uint32_t number, mf_mark *room, size_t room_len,
@@ -164,6 +232,14 @@ void mfchain_cadence(mf_cadence *cadence);
 uint32_t mfchain_sound(const mf_mark *mark, const mf_cadence *cadence, int16_t *samples, size_t room_len,
                        size_t *count);
 uint32_t mfchain_status_text(uint32_t status, uint8_t *text, size_t text_len);
+void mfchain_ear(mf_ear *ear);
+uint32_t mfchain_hear(mf_ear *ear, const int16_t *samples, size_t len, mf_heard *room, size_t room_len, size_t *taken,
+                      size_t *count);
+uint32_t mfchain_heard(const mf_ear *ear, mf_heard *key);
+uint32_t mfchain_incoming(const mf_key *keys, size_t len, uint32_t ended, mf_outcome *room, size_t room_len,
+                          size_t *count);
+uint32_t mfchain_onward(const mf_table *table, const mf_outcome *outcome, mf_mark *room, size_t room_len,
+                        size_t *count);
 
 /* Reads the route table that a TOML text of `len` bytes writes. Where it is refused, `fault` gets the reason, a
    text that ends with a zero and is cut to `fault_len` bytes, and the table is as it was. */
@@ -192,6 +268,17 @@ static inline enum mf_status mf_close(const mf_table *table, mf_line *line, uint
     if (!table || !line || !marks || !count)
         return MF_NULL;
     return (enum mf_status)mfchain_close(table, line, number, marks, room, count);
+}
+
+/* What the register of a line is told by a row that it is about to take, for lamps: call it before mf_take. `signals` has
+   room for `room`, of which MF_MOST_SIGNALS is enough. On MF_DONE the first *count of them are those; on any other status
+   they are as they were, and *count is 0. */
+static inline enum mf_status mf_signals(const mf_table *table, const mf_line *line, const mf_row *row,
+                                        mf_signal *signals, size_t room, size_t *count)
+{
+    if (!table || !line || !row || !signals || !count)
+        return MF_NULL;
+    return (enum mf_status)mfchain_signals(table, line, row, signals, room, count);
 }
 
 /* Forgets what is known of a line: its next row begins a new record. */
@@ -317,6 +404,66 @@ static inline enum mf_status mf_sound(const mf_mark *mark, const mf_cadence *cad
     if (!mark || !cadence || !samples || !count)
         return MF_NULL;
     return (enum mf_status)mfchain_sound(mark, cadence, samples, room, count);
+}
+
+/* Begins an ear, as zeros do: it has heard no sample. */
+static inline enum mf_status mf_begin_ear(mf_ear *ear)
+{
+    if (!ear)
+        return MF_NULL;
+    mfchain_ear(ear);
+    return MF_DONE;
+}
+
+/* Has an ear hear samples, MF_RATE a second. It takes the first *taken of them, and all as long as there is room for a
+   key that one of them may end; the first *count of `keys` are those that they end. Call it again with the rest. On any
+   status but MF_DONE the ear and the keys are as they were, and *taken and *count are 0. */
+static inline enum mf_status mf_hear(mf_ear *ear, const int16_t *samples, size_t len, mf_heard *keys, size_t room,
+                                     size_t *taken, size_t *count)
+{
+    if (!ear || !samples || !keys || !taken || !count)
+        return MF_NULL;
+    return (enum mf_status)mfchain_hear(ear, samples, len, keys, room, taken, count);
+}
+
+/* The key that sounds where the samples of an ear end; its kind is 0 where none does. */
+static inline enum mf_status mf_heard_last(const mf_ear *ear, mf_heard *key)
+{
+    if (!ear || !key)
+        return MF_NULL;
+    return (enum mf_status)mfchain_heard(ear, key);
+}
+
+/* The times of a key that was heard, as mfrx tells them. */
+static inline mf_key mf_key_of(const mf_heard *heard)
+{
+    mf_key key;
+    key.begin_ms = (20 * heard->first + 20) / 8;
+    key.end_ms = key.begin_ms + (20 * (heard->past - heard->first) + 20) / 8;
+    key.kind = (uint8_t)heard->sight.kind;
+    key.digit = (uint8_t)heard->sight.value;
+    return key;
+}
+
+/* What an incoming register tells of `len` keys, from the first one on: the first *count of `outcomes`, for which there
+   have to be more rooms than keys. Where `ended` is 0 the keys go on, and what is told is certain by them; else all is
+   told. After an ST that told an outcome the keys so far may be forgotten, and so may a first key that is no KP. */
+static inline enum mf_status mf_register(const mf_key *keys, size_t len, int ended, mf_outcome *outcomes, size_t room,
+                                         size_t *count)
+{
+    if (!keys || !outcomes || !count)
+        return MF_NULL;
+    return (enum mf_status)mfchain_incoming(keys, len, ended != 0, outcomes, room, count);
+}
+
+/* The marks by which an office sends an outcome on, on line 0: the keying of a number of any length by the longest code
+   that it begins with, or a refusal. */
+static inline enum mf_status mf_send_on(const mf_table *table, const mf_outcome *outcome, mf_mark *marks, size_t room,
+                                        size_t *count)
+{
+    if (!table || !outcome || !marks || !count)
+        return MF_NULL;
+    return (enum mf_status)mfchain_onward(table, outcome, marks, room, count);
 }
 
 /* The text of a status, which ends with a zero. MF_FAULT_ROOM is room for any; where there is less than it has, the

@@ -1,5 +1,5 @@
 -- What each status says, as text.
-use Rattle.std.specs.Prelude.{◌≡◌, ℕ, ◌≤◌, ◌==◌, nat_le, if◌then◌else◌, List, codes, length}
+use Rattle.std.specs.Prelude.{◌≡◌, ℕ, ◌≤◌, ◌==◌, ◌&&◌, nat_le, if◌then◌else◌, List, codes, length}
 use Rattle.mfchain.specs.declared.status.TheConstants.{NO_ROOM}
 
 -- of any call: 0 to 7
@@ -29,7 +29,7 @@ table_text status =
     else if status == 17 then codes "a route keys no digit"
     else codes "a route repeats a code"
 
--- of what is heard on a line, and of what is shown, played or dialled: 19 to 26
+-- of what is heard on a line or in a sound, and of what is shown, played or dialled: 19 to 26, and 28
 abbrev pub told_text : ℕ → List ℕ
 told_text status =
     if status == 19 then codes "a digit is 0 to 9"
@@ -39,7 +39,20 @@ told_text status =
     else if status == 23 then codes "the digits complete no number"
     else if status == 24 then codes "these are not the marks of an entry"
     else if status == 25 then codes "a time of the cadence is out of its range"
-    else codes "a character is a digit or a letter of the dial"
+    else if status == 26 then codes "a character is a digit or a letter of the dial"
+    else codes "this is no ear"
+
+-- of a table with entries of numbers: 29 to 36
+abbrev pub number_text : ℕ → List ℕ
+number_text status =
+    if status == 29 then codes "both plan and number"
+    else if status == 30 then codes "more than 100 numbers"
+    else if status == 31 then codes "a number has a wrong shape"
+    else if status == 32 then codes "a number has a wrong begins"
+    else if status == 33 then codes "a number has wrong digits"
+    else if status == 34 then codes "a number is shorter than its begins"
+    else if status == 35 then codes "a number repeats a begins"
+    else codes "a number is shorter than a longer begins"
 
 -- the text of a status, and of any other number
 abbrev pub status_text : ℕ → List ℕ
@@ -47,6 +60,8 @@ status_text status =
     if nat_le status 7 then call_text status
     else if nat_le status 18 then table_text status
     else if nat_le status 26 then told_text status
+    else if status == 28 then told_text status
+    else if nat_le 29 status && nat_le status 36 then number_text status
     else codes "this is no status"
 
 -- there is too little room for the text, and it is as it was

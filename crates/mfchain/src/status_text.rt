@@ -1,7 +1,7 @@
 // What each status says, as text.
 ghost use Rattle.std.specs.Prelude.{◌≡◌, ◌≢◌, ◌≤◌, ◌<◌, length};
 ghost use Rattle.mfchain.specs.Texts.{HasText};
-ghost use Rattle.mfchain.specs.StatusTexts.{LacksRoom, call_text, status_text, table_text, told_text};
+ghost use Rattle.mfchain.specs.StatusTexts.{LacksRoom, call_text, number_text, status_text, table_text, told_text};
 
 use crate::status::NO_ROOM;
 use crate::texts::put_ended;
@@ -44,7 +44,7 @@ fn table_text(status: u32) -> &'static str
     }
 }
 
-// The text of a status of what is heard on a line, and of what is shown, played or dialled.
+// The text of a status of what is heard on a line or in a sound, and of what is shown, played or dialled.
 fn told_text(status: u32) -> &'static str
     ensures value { result.now ≡ told_text status }
     ensures few { length result.now < 64 }
@@ -57,7 +57,25 @@ fn told_text(status: u32) -> &'static str
         23 => "the digits complete no number",
         24 => "these are not the marks of an entry",
         25 => "a time of the cadence is out of its range",
-        _ => "a character is a digit or a letter of the dial",
+        26 => "a character is a digit or a letter of the dial",
+        _ => "this is no ear",
+    }
+}
+
+// The text of a status of a table with entries of numbers.
+fn number_text(status: u32) -> &'static str
+    ensures value { result.now ≡ number_text status }
+    ensures few { length result.now < 64 }
+{
+    match status {
+        29 => "both plan and number",
+        30 => "more than 100 numbers",
+        31 => "a number has a wrong shape",
+        32 => "a number has a wrong begins",
+        33 => "a number has wrong digits",
+        34 => "a number is shorter than its begins",
+        35 => "a number repeats a begins",
+        _ => "a number is shorter than a longer begins",
     }
 }
 
@@ -69,7 +87,8 @@ fn text_of(status: u32) -> &'static str
     match status {
         0..=7 => call_text(status),
         8..=18 => table_text(status),
-        19..=26 => told_text(status),
+        19..=26 | 28 => told_text(status),
+        29..=36 => number_text(status),
         _ => "this is no status",
     }
 }

@@ -1,3 +1,2 @@
-pub mod HeardSoFar
 pub mod FewSignals
 pub mod Refusals

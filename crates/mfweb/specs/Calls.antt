@@ -1,6 +1,5 @@
 -- What the calls of the module do.
 use Rattle.std.specs.Prelude.{◌≡◌, ℕ, ◌==◌, if◌then◌else◌, List, Option, Some, None, Ok, Err}
-use Rattle.xb_model.specs.declared.key.Tone.{Tone}
 use Rattle.xb_model.specs.declared.limits.Limits.{Limits}
 use Rattle.xb_routes.specs.declared.fault.RouteFault.{RouteFault}
 use Rattle.xb_routes.specs.Keys.{FourKeys, four_keys}
@@ -10,9 +9,6 @@ use Rattle.xb_structs.specs.Filling.{IsNotAdded, begun}
 use Rattle.xb_structs.specs.Tables.{Holds}
 use Rattle.mfweb.specs.declared.exports.WebRoute.{WebRoute}
 use Rattle.xb_structs.specs.Status.{fault_place, fault_status}
-
-abbrev pub pair : ℕ → ℕ → Tone
-pair low high = record { low = low; high = high }
 
 -- what is there where a byte is not 0
 abbrev pub if_there : {A : Type 0} → ℕ → A → Option A

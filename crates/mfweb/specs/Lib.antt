@@ -1,9 +1,6 @@
 pub mod Calls
 pub mod Showing
-pub mod Names
-pub mod Ears
 pub mod Lamps
 pub mod Wrong
 pub mod Taken
 pub mod Told
-pub mod Onward

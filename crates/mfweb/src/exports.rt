@@ -7,7 +7,8 @@ ghost use Rattle.xb_routes.specs.Keys.{keys_in};
 ghost use Rattle.xb_sound.specs.Cadences.{standard_cadence};
 ghost use Rattle.xb_sound.specs.Sines.{pair_sample};
 ghost use Rattle.xb_structs.specs.Filling.{HasAdded};
-ghost use Rattle.mfweb.specs.Calls.{Begins, DoesNotAdd, DoesNotBegin, pair, words_of};
+ghost use Rattle.xb_onward.specs.Names.{pair};
+ghost use Rattle.mfweb.specs.Calls.{Begins, DoesNotAdd, DoesNotBegin, words_of};
 ghost use Rattle.mfweb.specs.Showing.{DoesNotPrint, FindsCode, FindsNoCode, PrintsEntry, number_in};
 
 use crate::status::NO_CODE;

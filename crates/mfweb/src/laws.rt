@@ -1,10 +1,8 @@
 //! The numbers by which a page knows what the module answers.
 ghost use Rattle.std.specs.Prelude.{◌≡◌};
-ghost use Rattle.mfweb.specs.declared.status.TheConstants.{NO_CODE, NO_EAR, NO_ROOM};
+ghost use Rattle.mfweb.specs.declared.status.TheConstants.{NO_CODE};
 
-/// The statuses that the calls of other libraries do not have.
+/// The status that the calls of other libraries do not have.
 pub fn constants()
-    ensures no_room { NO_ROOM ≡ 7 }
-    ensures no_code { NO_CODE ≡ 27 }
-    ensures no_ear { NO_EAR ≡ 28 }
+    ensures { NO_CODE ≡ 27 }
 {}

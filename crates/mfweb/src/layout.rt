@@ -2,23 +2,22 @@
 ghost use Rattle.std.specs.Prelude.{◌≡◌, ◌≢◌, ◌≤◌, ◌<◌, length, take};
 ghost use Rattle.mfweb.specs.declared.layout.TheConstants.{LAYOUT};
 
-use crate::ears::{WebEar, WebHeard, WebSight};
 use crate::exports::WebRoute;
 use crate::lamps::{WebDigit, WebLamps};
-use crate::status::NO_ROOM;
 use crate::taking::WebTaken;
 use std::mem::size_of;
 use xb_model::Limits;
-use xb_onward::{PlainKey, PlainOutcome};
+use xb_onward::{EarMemory, NO_ROOM, PlainHeard, PlainKey, PlainOutcome, PlainSight};
 use xb_sound::Cadence;
 use xb_structs::{DONE, PlainLine, PlainMark, PlainRoute, PlainRow, PlainSignal, PlainTable};
 
 // A struct in a text line: its name, its bytes, and each field with its type and where it begins. No struct has bytes
-// between its fields, so these places and the whole size are the only ones that C allows.
+// between its fields, and only a table has two behind them, so these places and the whole size are the only ones that C
+// allows.
 const LAYOUT: &[u8] = b"\
 limits 24 pulse_min:u32@0 pulse_max:u32@4 make_min:u32@8 pause:u32@12 release:u32@16 timeout:u32@20
 route 16 code:u32@0 trunk:u16@4 deleted:u8@6 length:u8@7 prefix:u8*8@8
-table 16032 plan:u32@0 limits:limits@4 count:u32@28 routes:route*1000@32
+table 17144 plan:u32@0 limits:limits@4 count:u32@28 routes:route*1000@32 lengths:u8*1110@16032
 keys 24 trunk:i64@0 delete:i64@8 has_delete:u8@16 has_prefix:u8@17
 line 24
 row 12 line:u32@0 state:u32@4 ms:u32@8
@@ -38,7 +37,7 @@ outcome 12 kind:u8@0 count:u8@1 digits:u8*10@2
 
 const _: () = prove!(size_of::<Limits>() == 24);
 
-const _: () = prove!(size_of::<PlainTable>() == 16_032);
+const _: () = prove!(size_of::<PlainTable>() == 17_144);
 
 const _: () = prove!(size_of::<PlainRoute>() == 16);
 
@@ -60,11 +59,11 @@ const _: () = prove!(size_of::<WebTaken>() == 584);
 
 const _: () = prove!(size_of::<Cadence>() == 8);
 
-const _: () = prove!(size_of::<WebSight>() == 24);
+const _: () = prove!(size_of::<PlainSight>() == 24);
 
-const _: () = prove!(size_of::<WebHeard>() == 40);
+const _: () = prove!(size_of::<PlainHeard>() == 40);
 
-const _: () = prove!(size_of::<WebEar>() == 1_816);
+const _: () = prove!(size_of::<EarMemory>() == 1_816);
 
 const _: () = prove!(size_of::<PlainKey>() == 24);
 

@@ -20,13 +20,11 @@
 //!   values. `mfweb_layout`: where the fields of each struct stand.
 #![tactic(auto)]
 
-mod ears;
 mod exports;
 mod lamps;
 pub mod laws;
 mod layout;
 mod listening;
-mod names;
 mod onward;
 mod status;
 mod taking;

@@ -1,22 +1,10 @@
 // What the page calls to have a second office take what is heard, and send it on. `unsafe` stands in the attributes
 // alone, as in `exports`.
 ghost use Rattle.std.specs.Prelude.{◌≡◌, ◌≢◌};
-ghost use Rattle.mfweb.specs.Onward.{IsNotRegistered, IsNotSentOn, IsRegistered, IsSentOn, not_sent_status};
+ghost use Rattle.xb_onward.specs.ByStatus.{IsNotRegistered, IsNotSentOn, IsRegistered, IsSentOn};
 
-use crate::status::NO_ROOM;
-use xb_onward::{NotSent, PlainKey, PlainOutcome, register_keys, send_on};
-use xb_structs::{DONE, PlainMark, PlainTable};
-
-// The status of an outcome that gives no marks.
-fn not_sent_status(why: NotSent) -> u32
-    ensures value { result ≡ not_sent_status why }
-    ensures not_done { result ≢ 0 }
-{
-    match why {
-        NotSent::NotOpened => 3,
-        NotSent::Room => 7,
-    }
-}
+use xb_onward::{PlainKey, PlainOutcome, register_by_status, send_on_by_status};
+use xb_structs::{PlainMark, PlainTable};
 
 /// What an incoming register tells of keys that were heard on a trunk, from its first one on: the first `count` of
 /// `room`. Where `ended` is 0 the keys go on, and what is told is certain by them; where it is not they have ended, and
@@ -32,14 +20,7 @@ pub extern "C" fn mfweb_incoming(
     ensures tells { result ≡ 0 → IsRegistered ended keys.now room.new count.new }
     ensures refuses { result ≢ 0 → IsNotRegistered keys.now room.old room.new count.new result }
 {
-    *count = 0;
-    match register_keys(keys, ended != 0, room) {
-        Ok(told) => {
-            *count = told;
-            DONE
-        }
-        Err(_) => NO_ROOM,
-    }
+    register_by_status(keys, ended, room, count)
 }
 
 /// The marks by which an office sends on what its register told, by a table: the keying of a number of any length by
@@ -57,12 +38,5 @@ pub extern "C" fn mfweb_onward(
     ensures refuses { result ≢ 0 →
         IsNotSentOn table.now outcome.now room.old room.new count.new result }
 {
-    *count = 0;
-    match send_on(table, outcome, room) {
-        Ok(given) => {
-            *count = given;
-            DONE
-        }
-        Err(why) => not_sent_status(why),
-    }
+    send_on_by_status(table, outcome, room, count)
 }

@@ -8,6 +8,7 @@ mod codes;
 mod faults;
 mod keyings;
 mod large;
+mod numbers;
 mod orders;
 mod pages;
 mod plans;

@@ -3,8 +3,9 @@
 //! Tests alone.
 
 mod cases;
+mod doubts;
 mod pulses;
-mod statuses;
+pub(crate) mod statuses;
 mod streams;
 mod tables;
 mod words;

@@ -34,9 +34,14 @@ figures_text scale sums =
     codes "; p/s " ++ series_text sums.speed ++ codes "; % break " ++ series_text sums.share
     ++ codes "; bounce " ++ tenths_or_dash (tenths_of_ms scale sums.bounce) ++ codes " ms"
 
+-- where there is no digit, the wire may be the other way round
+abbrev pub question_text : ℕ → List ℕ
+question_text digits = if digits == 0 then codes "; no digit: is the wire the other way round (--inverted)?" else []
+
 -- in words, and as the last line of a line
 abbrev pub sums_text : Scale → Sums → List ℕ
-sums_text scale sums = counts_text sums ++ figures_text scale sums ++ verdicts_text sums.verdicts
+sums_text scale sums =
+    counts_text sums ++ figures_text scale sums ++ verdicts_text sums.verdicts ++ question_text sums.digits
 
 abbrev pub summary_text : ℕ → Scale → Sums → List ℕ
 summary_text line scale sums = four_digits line ++ gap ++ sums_text scale sums ++ codes "\n"

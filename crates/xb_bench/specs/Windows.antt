@@ -1,5 +1,5 @@
 -- The windows that words name, and how the first lines state them.
-use Rattle.std.specs.Prelude.{ℕ, List, ◌++◌, Option, Some, None, bytes_eq, codes, nat_le, option_map, if◌then◌else◌}
+use Rattle.std.specs.Prelude.{ℕ, List, ◌++◌, Option, Some, None, bytes_eq, codes, max, min, nat_le, option_map, if◌then◌else◌}
 use Rattle.std.specs.Option.{option_and_then}
 use Rattle.clap.specs.Walk.{Text}
 use Rattle.xb_contact.specs.Numbers.{tenths_said}
@@ -47,10 +47,16 @@ share_window window = if nat_le window.most 1000 then Some window else None
 abbrev pub share_said : Text → Option Window
 share_said text = option_and_then share_window (window_said text)
 
--- with a window of the speed, to which dials are adjusted as well, and one of the share of break, where these are said
+-- a window that reaches as far as each of two
+abbrev pub wider : Window → Window → Window
+wider window other = window_of (min window.least other.least) (max window.most other.most)
+
+-- with a window of the speed to which dials are adjusted, where one is said: what is accepted reaches as far; and with one
+-- of the share of break
 abbrev pub with_speed : Windows → Option Text → Option Windows
 with_speed windows None = Some windows
-with_speed windows (Some text) = option_map (λ window. windows_of window window windows.share) (window_said text)
+with_speed windows (Some text) =
+    option_map (λ window. windows_of window (wider windows.accept window) windows.share) (window_said text)
 
 abbrev pub with_share : Windows → Option Text → Option Windows
 with_share windows None = Some windows

@@ -1,6 +1,6 @@
 // The line of what the digits of a line come to.
 ghost use Rattle.std.specs.Prelude.{◌≡◌, ◌++◌, OnOk, string_bytes};
-ghost use Rattle.xb_bench.specs.SummaryTexts.{counts_text, figures_text, series_text, summary_text};
+ghost use Rattle.xb_bench.specs.SummaryTexts.{counts_text, figures_text, question_text, series_text, summary_text};
 ghost use Rattle.xb_bench.specs.SummaryTexts.{sums_text, verdict_text, verdicts_text};
 
 use crate::text::push_extent;
@@ -64,13 +64,25 @@ fn push_figures(out: &mut String, scale: Scale, sums: Sums) -> Result<(), AllocE
     out.push_str(" ms")
 }
 
+// Puts a question after the text, where there is no digit.
+fn push_question(out: &mut String, digits: u64) -> Result<(), AllocError>
+    ensures { OnOk result (string_bytes out.new ≡ string_bytes out.old ++ question_text digits) }
+{
+    if digits == 0 {
+        out.push_str("; no digit: is the wire the other way round (--inverted)?")
+    } else {
+        Ok(())
+    }
+}
+
 /// Puts what the digits of a line come to after the text, in words. `Err` says that memory ran out.
 pub(crate) fn push_sums(out: &mut String, scale: Scale, sums: Sums) -> Result<(), AllocError>
     ensures { OnOk result (string_bytes out.new ≡ string_bytes out.old ++ sums_text scale sums) }
 {
     push_counts(out, sums)?;
     push_figures(out, scale, sums)?;
-    push_verdicts(out, sums.verdicts)
+    push_verdicts(out, sums.verdicts)?;
+    push_question(out, sums.digits)
 }
 
 /// Puts the last line of a line after the text: what its digits come to. `Err` says that memory ran out.

@@ -1,7 +1,7 @@
 // The windows that words name.
 ghost use Rattle.std.specs.Prelude.{◌≡◌, ◌++◌, IfOk, OnOk, option_map, string_bytes};
 ghost use Rattle.xb_bench.specs.Windows.{dial_named, header_text, share_said, window_said, window_text, windows_said, with_speed};
-ghost use Rattle.xb_bench.specs.Windows.{windows_text, with_share};
+ghost use Rattle.xb_bench.specs.Windows.{wider, windows_text, with_share};
 
 use std::alloc::{AllocError, Global};
 use xb_contact::tenths_said;
@@ -90,7 +90,17 @@ pub(crate) fn is_no_window(text: Option<&str>) -> bool {
     }
 }
 
-// With this window of the speed, to which dials are adjusted as well, where one is said.
+// A window that reaches as far as each of two.
+fn wider(window: Window, other: Window) -> Window
+    ensures { result ≡ wider window other }
+{
+    Window {
+        least: window.least.min(other.least),
+        most: window.most.max(other.most),
+    }
+}
+
+// With this window of the speed to which dials are adjusted, where one is said. What is accepted reaches as far.
 fn with_speed(windows: Windows, text: Option<&str>) -> Option<Windows>
     ensures { result ≡ with_speed windows (option_map (λ text. text.now) text.entry) }
 {
@@ -100,7 +110,7 @@ fn with_speed(windows: Windows, text: Option<&str>) -> Option<Windows>
     let window = window_said(text.as_bytes())?;
     Some(Windows {
         adjust: window,
-        accept: window,
+        accept: wider(windows.accept, window),
         ..windows
     })
 }

@@ -18,7 +18,9 @@ use xb_feed::{
 pub const PROGRAM: Program<'static> = Program {
     name: "mfbench",
     about: "Measures a dial on the bench: prints of each digit of a recording its speed, its share of break and its bounces, in
-the moment in which its pause is reached.
+the moment in which its pause is reached. The last column judges a digit of five pulses or more: FAST or SLOW where its
+speed is not accepted, HIGH or LOW where its share of break is not within its window, PASS where both are accepted, and
+GOOD where the speed is one to which dials are adjusted, too.
 
     mfbench two_zeros.vcd --wire 7=dial
 
@@ -28,8 +30,8 @@ away.",
         RECORDING,
         Word {
             value: Value::SomeTexts,
-            help: "line N of the office is the wire of this name, or number; once for each line. After the name may
-        stand ,inverted and ,settle=MS, which hold for this line alone",
+            help: "line N of the office is the wire of this name, or number; once for each line. mfloop --list prints the
+        wires of a recording. After the name may stand ,inverted and ,settle=MS, which hold for this line alone",
             ..WIRE
         },
         Word {
@@ -44,7 +46,7 @@ away.",
             name: "speed",
             value: Value::Text,
             shown: "FROM-TO",
-            help: "another window of the speed, as 9.5-10.5",
+            help: "another window of the speed to which a dial is adjusted, as 9.8-10.2; what is accepted reaches as far",
             ..FLAG
         },
         Word {

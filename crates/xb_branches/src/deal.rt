@@ -140,21 +140,13 @@ impl<T: Drop> Deal<T> {
         ensures lawful { DealLaw self.new }
         ensures served { HasDealt self.new }
     {
-        let mut idle = Pause::new();
-        let mut blocked = Pause::new();
+        let mut pause = Pause::new();
         for _ in rt.forever() {
             gate.pass(Post::Deal, self.taken);
-            let place = self.place;
             match self.turn() {
                 Turn::Ended => return,
-                Turn::Moved => {
-                    idle.items_came(&self.consumer);
-                    if let Some(producer) = self.producers.get(place) {
-                        blocked.room_came(producer);
-                    }
-                }
-                Turn::Idle => idle.wait(rt),
-                Turn::Blocked => blocked.wait(rt),
+                Turn::Moved => pause.over(),
+                Turn::Idle | Turn::Blocked => pause.wait(rt),
             }
         }
         unreachable!()

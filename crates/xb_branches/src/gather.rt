@@ -137,21 +137,13 @@ impl<T: Ending + Drop> Gather<T> {
         ensures lawful { GatherLaw T.ending self.new }
         ensures served { HasMerged T.ending self.new }
     {
-        let mut idle = Pause::new();
-        let mut blocked = Pause::new();
+        let mut pause = Pause::new();
         for _ in rt.forever() {
             gate.pass(Post::Gather, self.taken);
-            let place = self.place;
             match self.turn() {
                 Turn::Ended => return,
-                Turn::Moved => {
-                    if let Some(consumer) = self.consumers.get(place) {
-                        idle.items_came(consumer);
-                    }
-                    blocked.room_came(&self.producer);
-                }
-                Turn::Idle => idle.wait(rt),
-                Turn::Blocked => blocked.wait(rt),
+                Turn::Moved => pause.over(),
+                Turn::Idle | Turn::Blocked => pause.wait(rt),
             }
         }
         unreachable!()

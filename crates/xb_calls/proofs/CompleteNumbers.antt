@@ -1,10 +1,11 @@
 -- A number that is complete is the shortest complete beginning of itself.
-use Rattle.std.proofs.Common.{◌≡◌, ◌⊎◌, inl, inr, ℕ, ◌<◌, Bool, true, false, List, [], ◌∷◌, ◌++◌, map, length, Option, Some, None, refl, ap, ◌∙◌, arith, eqb-true, ne_eqb}
-use Rattle.std.specs.Prelude.{option_map, ◌==◌}
+use Rattle.std.proofs.Common.{◌≡◌, inl, inr, ℕ, ◌<◌, Bool, true, false, List, [], ◌∷◌, ◌++◌, map, length, Some, refl, ap, ◌∙◌, arith, ne_eqb}
+use Rattle.std.specs.Prelude.{option_map}
 use Rattle.std.specs.List.{find}
 use Rattle.xb_model.specs.declared.plan.Plan.{Plan}
-use Rattle.xb_model.specs.Plans.{plan_len, length_after}
-use Rattle.xb_model.specs.Numbers.{fronts, has_length, is_complete, shortest_complete}
+use Rattle.xb_model.specs.Plans.{plan_len}
+use Rattle.xb_model.specs.Numbers.{fronts, is_complete, shortest_complete}
+use Rattle.xb_model.proofs.Told.{has_length-is, plan_len-front}
 
 -- finding among images
 pub find-map : {A B : Type 0} (test : B → Bool) (f : A → B) (xs : List A)
@@ -28,32 +29,6 @@ find-fronts test (d ∷ digits) passes fails =
     let later = find-fronts (λ front. test (d ∷ front)) digits passes
     (λ front rest e shorter. fails (d ∷ front) rest (ap (λ more. d ∷ more) e) (omega arith)) in
     rw none (find-map test (λ front. d ∷ front) (fronts digits) ∙ ap (option_map (λ front. d ∷ front)) later)
-
--- what the first digits tell of the length, more digits tell too
-length_after-front : (plan : Plan) (a : ℕ) (front rest : List ℕ)
-    → (length_after plan a front ≡ None) ⊎ (length_after plan a front ≡ length_after plan a (front ++ rest))
-length_after-front plan a [] rest = inl refl
-length_after-front plan a (b ∷ []) rest = inl refl
-length_after-front plan a (b ∷ c ∷ front) rest = inr refl
-
-pub plan_len-front : (plan : Plan) (front rest : List ℕ)
-    → (plan_len plan front ≡ None) ⊎ (plan_len plan front ≡ plan_len plan (front ++ rest))
-plan_len-front plan [] rest = inl refl
-plan_len-front plan (a ∷ front) rest = at (a == 0) refl
-  where
-    at : (operator : Bool) → (a == 0) ≡ operator
-        → (plan_len plan (a ∷ front) ≡ None) ⊎ (plan_len plan (a ∷ front)
-        ≡ plan_len plan ((a ∷ front) ++ rest))
-    at true e = inr (rw e refl)
-    at false e = rw e (length_after-front plan a front rest)
-
--- a length that is so many
-has_length-is : (len : Option ℕ) (n : ℕ) → has_length len n ≡ true → len ≡ Some n
-has_length-is None n h = absurd (both h)
-  where
-    both : false ≡ true → ⊥
-    both e = cc
-has_length-is (Some len) n h = ap Some (eqb-true len n h)
 
 -- a shorter beginning of a complete number is not complete
 shorter_is_not : (plan : Plan) (digits front rest : List ℕ) → is_complete plan digits ≡ true

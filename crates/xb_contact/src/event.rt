@@ -38,6 +38,8 @@ pub enum Refusal {
     Bits,
     /// Several wires have a name that is asked for.
     Twice,
+    /// A change whose code is above those of all wires that are declared.
+    Code,
     /// No wire has a name that is asked for; the first such wire, counted from 0 in the order of the names.
     NoWire(usize),
     /// A row has no such column.
@@ -52,6 +54,8 @@ pub enum Refusal {
     Edge,
     /// A file whose head is that of no WAV whose samples can be read.
     Wav,
+    /// Times in seconds of which none has a point, as where they are ms or us.
+    Whole,
     /// Raw samples whose wires go to and fro with each byte, as where a sample has two.
     TwoBytes,
     /// Two edges of one direction, with none between them.
@@ -66,6 +70,12 @@ pub enum Refusal {
     MoreFollows,
     /// Sound whose greatest sample is under three times the threshold; such a threshold would fit.
     Quiet(u8),
+    /// Sound whose greatest sample is too low for the least threshold.
+    Silent,
+    /// A recording in which nothing stands.
+    Blank,
+    /// A deck, or a route table or rows alone.
+    Deck,
     /// The form is told by nothing.
     Form,
     /// A line of more than 65,536 bytes.
@@ -91,6 +101,7 @@ impl fmt::Display for Refusal {
             Refusal::Timescale => f.write_str("a timescale was wanted"),
             Refusal::Bits => f.write_str("a wire that is asked for has several bits"),
             Refusal::Twice => f.write_str("two wires have a name that is asked for"),
+            Refusal::Code => f.write_str("no wire is declared by that code"),
             Refusal::NoWire(_) => f.write_str("no wire has a name that is asked for"),
             Refusal::Columns => f.write_str("a column that is asked for is missing"),
             Refusal::Header => f.write_str("a header was wanted"),
@@ -101,6 +112,9 @@ impl fmt::Display for Refusal {
             Refusal::Edge => f.write_str("a line of gpiomon was wanted"),
             Refusal::Wav => f.write_str(
                 "a WAV of PCM, floats, A-law or mu-law was wanted: sox IN.wav -e signed -b 16 OUT.wav",
+            ),
+            Refusal::Whole => f.write_str(
+                "no time has a point: seconds are wanted, and no ms or us",
             ),
             Refusal::TwoBytes => f.write_str(
                 "the wires go to and fro with each byte: give --format bits16",
@@ -123,7 +137,16 @@ impl fmt::Display for Refusal {
                 f,
                 "the sound is too quiet for the threshold: give --threshold {threshold}"
             ),
-            Refusal::Form => f.write_str("the form of the recording cannot be told: give --format"),
+            Refusal::Silent => f.write_str(
+                "the sound is too quiet for any threshold: record it louder",
+            ),
+            Refusal::Blank => f.write_str("it is empty"),
+            Refusal::Deck => f.write_str(
+                "this is a deck or a part of one, and no recording: mfhear takes one, without --wire",
+            ),
+            Refusal::Form => f.write_str(
+                "no form begins so: leave out a header of your own, write commas for semicolons, or give --format",
+            ),
             Refusal::TooLong => f.write_str("a line has to end within 65536 bytes"),
             Refusal::TooLate => f.write_str("the time is too late to be counted"),
             Refusal::NoMemory => f.write_str("out of memory"),

@@ -7,7 +7,7 @@ use Rattle.xb_contact.specs.Numbers.{number_of}
 use Rattle.xb_contact.specs.Changes.{IsName}
 use Rattle.xb_contact.proofs.Written.{number_is_read, same_bytes}
 use Rattle.xb_csv.specs.Cells.{trimmed}
-use Rattle.xb_csv.specs.Gpiomons.{between, first_word, is_name, is_numbered, is_text, name_by, name_of_wire, names_by, names_wire, number_or_all}
+use Rattle.xb_csv.specs.Gpiomons.{between, first_word, is_name, is_numbered, is_text, name_by, name_of_wire, names_by, names_wire}
 use Rattle.xb_csv.specs.Written.{LinesAreNamed, line_text, number_text, quoted_text}
 use Rattle.xb_csv.proofs.WrittenEdges.{BeginsBare, EndsBare, begins_more, chip_bare, decimal_name, ends_append, ends_more, name_begins, trimmed_same, word_cut}
 

@@ -1,6 +1,6 @@
 -- Rows of times and levels that are written are read back.
-use Rattle.std.proofs.Common.{◌≡◌, ℕ, zero, suc, ◌+◌, ◌^◌, ◌<◌, ◌≤◌, List, [], ◌∷◌, ◌++◌, Bool, true, false, cond, Option, Some, None, length, length-append, map, refl, ap, sym, subst, ◌∙◌, arith, ne_eqb, not, append_assoc, append-nil, ◌&&◌}
-use Rattle.std.specs.Prelude.{Ok, Err, nat_lt, ◌==◌, slice_get}
+use Rattle.std.proofs.Common.{◌≡◌, ℕ, zero, suc, ◌+◌, ◌-◌, ◌/◌, ◌%◌, ◌^◌, ◌<◌, ◌≤◌, List, [], ◌∷◌, ◌++◌, Bool, true, false, cond, Option, Some, None, length, length-append, map, refl, ap, sym, subst, ◌∙◌, arith, ne_eqb, not, append_assoc, append-nil, ◌&&◌}
+use Rattle.std.specs.Prelude.{Ok, Err, decimal, nat_lt, ◌==◌, slice_get}
 use Rattle.std.specs.List.{list_all, onto_first, slice_split}
 use Rattle.std.specs.Option.{ok_or, option_and_then}
 use Rattle.std.proofs.lemmas.Bool.{and_parts}
@@ -11,15 +11,16 @@ use Rattle.xb_contact.specs.declared.level.Level.{Level}
 use Rattle.xb_contact.specs.declared.level.Level.TheVariants.{Open, Closed}
 use Rattle.xb_contact.specs.declared.scale.TheConstants.{NANOSECONDS}
 use Rattle.xb_contact.specs.Changes.{IsName}
+use Rattle.xb_contact.specs.Numbers.{is_digit}
 use Rattle.xb_contact.specs.Steps.{is_before, result_and_then, result_map, said_before, then_later}
 use Rattle.xb_contact.proofs.StepLemmas.{line_says}
 use Rattle.xb_contact.proofs.Written.{number_is_read}
 use Rattle.xb_csv.specs.declared.row_times.Clock.TheVariants as clocks
 use Rattle.xb_csv.specs.declared.columns.TableForm.TheVariants as forms
 use Rattle.xb_csv.specs.Cells.{cells_of, trimmed}
-use Rattle.xb_csv.specs.Seconds.{nanoseconds_of}
-use Rattle.xb_csv.specs.Tables.{TableState, begins_rows, begun_table, edges_row, level_in, levels_from, line_of_form, numbered_from, row_at, row_says, table_ends, table_line_says, table_says}
-use Rattle.xb_csv.specs.Written.{AreRows, TableRow, WrittenRowsAreRead, level_text, levels_said, levels_text, numbers_from, row_lines, rows_said, seconds_text}
+use Rattle.xb_csv.specs.Seconds.{is_number, nanoseconds_of}
+use Rattle.xb_csv.specs.Tables.{TableState, begins_rows, begun_table, clock_with, edges_row, level_in, levels_from, line_of_form, numbered_from, row_at, row_says, table_ends, table_line_says, table_says, whole_row}
+use Rattle.xb_csv.specs.Written.{AreRows, TableRow, WrittenRowsAreRead, last_digits, level_text, levels_said, levels_text, numbers_from, row_lines, rows_said, seconds_text}
 use Rattle.xb_csv.proofs.WrittenSeconds.{seconds_are_read, seconds_pass}
 use Rattle.xb_csv.proofs.WrittenEdges.{EndsBare, begins_more, ends_append, name_begins, name_ends, seconds_name, trimmed_same}
 
@@ -181,6 +182,33 @@ rest-read wires rate tick (row ∷ rows) late all =
     (line-read (among wires rate (Some tick)) row all.2 refl ∙ subst P all.0 (row-read rate (Some tick) row (omega arith) all.2 order))
     ∙ ap (then_later (events.At row.tick ∷ levels_said 0 row.levels)) (rest-read wires rate row.tick rows (omega arith) all.3)
 
+-- a time that is written has a point
+and-false : (test : Bool) → test && false ≡ false
+and-false true = refl
+and-false false = refl
+
+pointed : (whole fraction : List ℕ) → is_number (whole ++ 46 ∷ fraction) ≡ false
+pointed [] fraction = refl
+pointed (digit ∷ whole) fraction =
+    ap (λ rest. is_digit digit && rest) (pointed whole fraction) ∙ and-false (is_digit digit)
+
+seconds-pointed : (tick : ℕ) → is_number (seconds_text tick) ≡ false
+unfolding seconds_text
+seconds-pointed tick =
+    pointed (decimal ((tick - 2 ^ 62) / 1000000000)) (last_digits 9 ((tick - 2 ^ 62) % 1000000000))
+
+-- so it is one of seconds
+first-pointed :
+    (state : TableState) (row : TableRow) → row.tick < 2 ^ 64
+    → whole_row state 0 (seconds_text row.tick ++ levels_text row.levels)
+    ≡ row_says (record state { clock = clocks.Seconds }) (seconds_text row.tick ++ levels_text row.levels)
+first-pointed state row small =
+    let text : List ℕ = seconds_text row.tick ++ levels_text row.levels in
+    ap (λ cells. result_and_then (λ clock. row_says (record state { clock = clock }) text) (clock_with 0 (slice_get cells 0)))
+    (cells-read row.tick row.levels small)
+    ∙ ap (λ whole. result_and_then (λ clock. row_says (record state { clock = clock }) text)
+    (cond whole (Ok (clocks.Whole 1)) (Ok clocks.Seconds))) (seconds-pointed row.tick)
+
 pub written_rows_are_read : WrittenRowsAreRead
 written_rows_are_read wires rate row rows few all =
     let text : List ℕ = seconds_text row.tick ++ levels_text row.levels in
@@ -191,10 +219,12 @@ written_rows_are_read wires rate row rows few all =
     let first : table_line_says begun text
     ≡ Ok (events.Ticks NANOSECONDS ∷ events.At row.tick ∷ levels_said 0 row.levels, among wires rate (Some row.tick)) =
     line-read begun row all.2 refl
-    ∙ ap (λ found. result_and_then (λ said. said_before said.0 (row_says said.1 text))
-    (result_and_then (λ columns. begins_rows (record begun { columns = columns }) clocks.Seconds NANOSECONDS) found))
+    ∙ ap (λ found. result_and_then (λ said. said_before said.0 (whole_row said.1 0 text))
+    (result_and_then (λ columns. begins_rows (record begun { columns = columns }) (clocks.Whole 0) NANOSECONDS) found))
     (columns-read 0 1 wires (omega arith) (omega arith))
-    ∙ ap (said_before (events.Ticks NANOSECONDS ∷ [])) (subst P all.0 (row-read rate None row late all.2 refl)) in
+    ∙ ap (said_before (events.Ticks NANOSECONDS ∷ []))
+    (first-pointed (record (among wires rate None) { clock = clocks.Whole 0 }) row (omega arith)
+    ∙ subst P all.0 (row-read rate None row late all.2 refl)) in
     line_says table_line_says table_ends begun (among wires rate (Some row.tick)) text (row_lines rows)
     (events.Ticks NANOSECONDS ∷ events.At row.tick ∷ levels_said 0 row.levels) first
     ∙ ap (then_later (events.Ticks NANOSECONDS ∷ events.At row.tick ∷ levels_said 0 row.levels)) (rest-read wires rate row.tick rows late all.3)

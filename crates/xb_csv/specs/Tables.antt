@@ -20,7 +20,7 @@ use Rattle.xb_csv.specs.declared.sample_periods.CutTimes.{CutTimes}
 use Rattle.xb_csv.specs.declared.columns.TableForm.{TableForm}
 use Rattle.xb_csv.specs.declared.columns.TableForm.TheVariants as forms
 use Rattle.xb_csv.specs.Cells.{after, cell_number, cells_of, stands_after, trimmed}
-use Rattle.xb_csv.specs.Seconds.{fitting, fraction_of, nanoseconds_of, point_parts}
+use Rattle.xb_csv.specs.Seconds.{fitting, fraction_of, is_number, nanoseconds_of, point_parts}
 
 -- the form, the wires that are asked for, their columns, when a row is, how many samples a second has, where that is
 -- known, and the time of the last row, if there is one
@@ -236,7 +236,7 @@ numbered_columns names = numbered_from 0 names
 
 abbrev pub no_header : TableState → Said TableState
 no_header state =
-    result_and_then (λ columns. begins_rows (record state { columns = columns }) clocks.Seconds NANOSECONDS)
+    result_and_then (λ columns. begins_rows (record state { columns = columns }) (clocks.Whole 0) NANOSECONDS)
     (numbered_columns state.names)
 
 -- the tick after the last one
@@ -255,6 +255,7 @@ row_time (clocks.Undecided cut) last cell = None
 row_time clocks.Ticks last cell = number_of cell
 row_time (clocks.Periods period) last cell = option_and_then (in_periods period) (number_of cell)
 row_time clocks.Seconds last cell = nanoseconds_of cell
+row_time (clocks.Whole count) last cell = nanoseconds_of cell
 row_time clocks.Rows last cell = tick_after last
 
 -- the levels of a row, each in the column of its wire
@@ -276,6 +277,7 @@ columns_before (clocks.Undecided cut) = 1
 columns_before clocks.Ticks = 1
 columns_before (clocks.Periods period) = 1
 columns_before clocks.Seconds = 0
+columns_before (clocks.Whole count) = 0
 columns_before clocks.Rows = 0
 
 -- a row: its time, not before the last one, and the levels of the wires
@@ -317,6 +319,7 @@ sigrok_row state (clocks.Undecided cut) line = first_time state cut line
 sigrok_row state clocks.Ticks line = row_says state line
 sigrok_row state (clocks.Periods period) line = row_says state line
 sigrok_row state clocks.Seconds line = row_says state line
+sigrok_row state (clocks.Whole count) line = row_says state line
 sigrok_row state clocks.Rows line = row_says state line
 
 abbrev pub sigrok_line : TableState → List ℕ → Said TableState
@@ -328,15 +331,30 @@ saleae_row state (clocks.Undecided cut) line = row_says state line
 saleae_row state clocks.Ticks line = row_says state line
 saleae_row state (clocks.Periods period) line = row_says state line
 saleae_row state clocks.Seconds line = row_says state line
+saleae_row state (clocks.Whole count) line = row_says state line
 saleae_row state clocks.Rows line = row_says state line
+
+-- of seconds the first eight rows may not all be without a point, nor all rows: so are ms and us
+abbrev pub clock_with : ℕ → Option (List ℕ) → Result Clock Refusal
+clock_with count None = Ok clocks.Seconds
+clock_with count (Some cell) =
+    if is_number cell then (if nat_lt count 7 then Ok (clocks.Whole (count + 1)) else Err refusals.Whole)
+    else Ok clocks.Seconds
+
+-- a row of seconds, after so many without a point, and none with one
+abbrev pub whole_row : TableState → ℕ → List ℕ → Said TableState
+whole_row state count line =
+    result_and_then (λ clock. row_says (record state { clock = clock }) line)
+    (clock_with count (slice_get (cells_of line) 0))
 
 abbrev pub edges_row : TableState → Clock → List ℕ → Said TableState
 edges_row state clocks.Unknown line =
-    result_and_then (λ said. said_before said.0 (row_says said.1 line)) (no_header state)
+    result_and_then (λ said. said_before said.0 (whole_row said.1 0 line)) (no_header state)
 edges_row state (clocks.Undecided cut) line = row_says state line
 edges_row state clocks.Ticks line = row_says state line
 edges_row state (clocks.Periods period) line = row_says state line
 edges_row state clocks.Seconds line = row_says state line
+edges_row state (clocks.Whole count) line = whole_row state count line
 edges_row state clocks.Rows line = row_says state line
 
 abbrev pub line_of_form : TableState → TableForm → List ℕ → Said TableState
@@ -349,13 +367,14 @@ abbrev pub table_line_says : TableState → List ℕ → Said TableState
 table_line_says state line =
     if length (trimmed line) == 0 then Ok ([], state) else line_of_form state state.form (trimmed line)
 
--- the end: there has to be a row, and where each row is a tick, the last one lasts a tick too
+-- the end: there has to be a row, of seconds one with a point, and where each row is a tick, the last one lasts a tick too
 abbrev pub ends_at : Clock → ℕ → Result (List Event) Refusal
 ends_at clocks.Unknown last = Ok []
 ends_at (clocks.Undecided cut) last = Ok []
 ends_at clocks.Ticks last = Ok []
 ends_at (clocks.Periods period) last = Ok []
 ends_at clocks.Seconds last = Ok []
+ends_at (clocks.Whole count) last = Err refusals.Whole
 ends_at clocks.Rows last = result_map (λ time. events.At time ∷ []) (ok_or (fitting (last + 1)) refusals.Time)
 
 abbrev pub table_ends : TableState → Result (List Event) Refusal

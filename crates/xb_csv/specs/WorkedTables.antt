@@ -92,6 +92,11 @@ pub record TablesAreRead : Type 0 where
   pub edges :
       table_says of_edges (codes "1.5, 0" ∷ [] ∷ codes "1.51,1" ∷ [])
       ≡ Ok (Ticks (scale_by 1 1000000) ∷ At (2 ^ 62 + 1500000000) ∷ Level 0 Open ∷ At (2 ^ 62 + 1510000000) ∷ Level 0 Closed ∷ [])
+  pub whole : table_says of_edges (codes "17,0" ∷ codes "23,1" ∷ []) ≡ Err refusals.Whole
+  pub first_whole :
+      table_says of_edges (codes "0,1" ∷ codes "1,0" ∷ codes "1.060,1" ∷ [])
+      ≡ Ok (Ticks (scale_by 1 1000000) ∷ At (2 ^ 62) ∷ Level 0 Closed ∷ At (2 ^ 62 + 1000000000) ∷ Level 0 Open
+      ∷ At (2 ^ 62 + 1060000000) ∷ Level 0 Closed ∷ [])
   pub backwards : table_says of_edges (codes "2,0" ∷ codes "1,1" ∷ []) ≡ Err refusals.Backwards
   pub no_level : table_says of_edges (codes "1,x" ∷ []) ≡ Err refusals.Level
   pub no_column : table_says of_edges (codes "1" ∷ []) ≡ Err refusals.Columns

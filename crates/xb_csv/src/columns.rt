@@ -2,13 +2,13 @@
 ghost use Rattle.std.specs.Prelude.{◌≡◌, ◌+◌, ◌∷◌, [], Ok, IfErr, OnOk, map};
 ghost use Rattle.xb_contact.specs.Steps.{Adds, AddsAll, IsRefusedBy};
 ghost use Rattle.xb_csv.specs.Cells.{cells_of};
-ghost use Rattle.xb_csv.specs.Tables.{begun_table, begins_rows, columns_before, comment_says, cut_times, edges_row, first_time, label_refused, levels_from, line_of_form, named_samples, names_say, no_header, row_at, row_says, saleae_begins, saleae_header, saleae_row, samples_begin, sigrok_by_units, sigrok_header, sigrok_line, sigrok_row, table_ends, table_line_says, table_says, table_state, times_begin, times_decided, units_of_label};
+ghost use Rattle.xb_csv.specs.Tables.{begun_table, begins_rows, columns_before, comment_says, cut_times, edges_row, first_time, label_refused, levels_from, line_of_form, named_samples, names_say, no_header, row_at, row_says, saleae_begins, saleae_header, saleae_row, samples_begin, sigrok_by_units, sigrok_header, sigrok_line, sigrok_row, table_ends, table_line_says, table_says, table_state, times_begin, times_decided, units_of_label, whole_row};
 
 use crate::cells::{after, cell_at, trimmed};
 use crate::preamble::{
     is_comment, is_remark, is_seconds, rate_in, refusal_of_label, scale_of_units, units_of_label,
 };
-use crate::row_times::{Clock, columns_before, end_at, first_number, row_time};
+use crate::row_times::{Clock, clock_with, columns_before, end_at, first_number, row_time};
 use crate::sample_periods::{CutTimes, counts_periods, cut_times};
 use crate::wires::{find_columns, number_columns, say_levels};
 use std::alloc::Global;
@@ -225,7 +225,7 @@ impl<'a> Columns<'a> {
         ensures refused { IfErr result (IsRefusedBy (no_header (table_state self.old))) }
     {
         number_columns(self.names, &mut self.columns)?;
-        self.begin_rows(Clock::Seconds, NANOSECONDS, events)
+        self.begin_rows(Clock::Whole(0), NANOSECONDS, events)
     }
 
     // A row at this time.
@@ -261,6 +261,16 @@ impl<'a> Columns<'a> {
             return Err(Refusal::Time);
         };
         self.take_row_at(line, time, events)
+    }
+
+    // A row of seconds, after so many in which no time has a point.
+    fn take_whole(&mut self, count: u8, line: &[u8], events: &mut Vec<Event>) -> Result<(), Refusal>
+        ensures said { OnOk result (Adds (whole_row (table_state self.old) count line.now)
+            events.old.items events.new.items (table_state self.new)) }
+        ensures refused { IfErr result (IsRefusedBy (whole_row (table_state self.old) count line.now)) }
+    {
+        self.clock = clock_with(count, cell_at(line, 0))?;
+        self.take_row(line, events)
     }
 
     // The first row tells what its times are.
@@ -310,7 +320,7 @@ impl<'a> Columns<'a> {
         match self.clock {
             Clock::Unknown => self.take_sigrok_header(line, events),
             Clock::Undecided(cut) => self.take_first_time(cut, line, events),
-            Clock::Ticks | Clock::Periods(_) | Clock::Seconds | Clock::Rows => {
+            Clock::Ticks | Clock::Periods(_) | Clock::Seconds | Clock::Whole(_) | Clock::Rows => {
                 self.take_row(line, events)
             }
         }
@@ -337,8 +347,12 @@ impl<'a> Columns<'a> {
     {
         match self.clock {
             Clock::Unknown => self.take_saleae_header(line, events),
-            Clock::Undecided(_) | Clock::Ticks | Clock::Periods(_) | Clock::Seconds | Clock::Rows =>
-                self.take_row(line, events),
+            Clock::Undecided(_)
+            | Clock::Ticks
+            | Clock::Periods(_)
+            | Clock::Seconds
+            | Clock::Whole(_)
+            | Clock::Rows => self.take_row(line, events),
         }
     }
 
@@ -352,8 +366,9 @@ impl<'a> Columns<'a> {
         match self.clock {
             Clock::Unknown => {
                 self.take_no_header(events)?;
-                self.take_row(line, events)
+                self.take_whole(0, line, events)
             }
+            Clock::Whole(count) => self.take_whole(count, line, events),
             Clock::Undecided(_) | Clock::Ticks | Clock::Periods(_) | Clock::Seconds | Clock::Rows =>
                 self.take_row(line, events),
         }

@@ -1,12 +1,15 @@
 // When the rows of a table are.
-ghost use Rattle.std.specs.Prelude.{◌≡◌, ◌≤◌, IfErr, OnOk};
+ghost use Rattle.std.specs.Prelude.{◌≡◌, ◌≤◌, IfErr, OnOk, option_copied};
 ghost use Rattle.xb_contact.specs.Steps.{AddsAll, IsRefusedBy};
-ghost use Rattle.xb_csv.specs.Tables.{columns_before, ends_at, first_number, row_time};
+ghost use Rattle.xb_csv.specs.Tables.{clock_with, columns_before, ends_at, first_number, row_time};
 
 use crate::cells::cell_at;
 use crate::sample_periods::{CutTimes, in_periods};
-use crate::seconds::nanoseconds_of;
+use crate::seconds::{is_number, nanoseconds_of};
 use xb_contact::{Event, Refusal, number_of, say};
+
+// Of so many rows the times may be whole numbers.
+const MOST_WHOLE: u8 = 7;
 
 /// When a row is.
 #[derive(Clone, Copy, Debug, PartialEq, Eq)]
@@ -21,6 +24,8 @@ pub enum Clock {
     Periods(u64),
     /// Its first column says it, in seconds.
     Seconds,
+    /// The same, but so many rows have come, and no time of them has a point.
+    Whole(u8),
     /// Each row is a tick.
     Rows,
 }
@@ -32,7 +37,22 @@ pub(crate) fn columns_before(clock: Clock) -> usize
 {
     match clock {
         Clock::Undecided(_) | Clock::Ticks | Clock::Periods(_) => 1,
-        Clock::Unknown | Clock::Seconds | Clock::Rows => 0,
+        Clock::Unknown | Clock::Seconds | Clock::Whole(_) | Clock::Rows => 0,
+    }
+}
+
+/// The clock with a row more of seconds, whose first cell this is: of so many before it no time has a point.
+pub(crate) fn clock_with(count: u8, cell: Option<&[u8]>) -> Result<Clock, Refusal>
+    ensures { result ≡ clock_with count (option_copied cell.entry) }
+{
+    match cell {
+        Some(cell) if is_number(cell) => {
+            if count >= MOST_WHOLE {
+                return Err(Refusal::Whole);
+            }
+            Ok(Clock::Whole(count + 1))
+        }
+        _ => Ok(Clock::Seconds),
     }
 }
 
@@ -48,7 +68,7 @@ pub(crate) fn row_time(clock: Clock, last: Option<u64>, cell: &[u8]) -> Option<u
     ensures { result ≡ row_time clock last cell.now }
 {
     match clock {
-        Clock::Seconds => nanoseconds_of(cell),
+        Clock::Seconds | Clock::Whole(_) => nanoseconds_of(cell),
         Clock::Ticks => number_of(cell),
         Clock::Periods(period) => in_periods(period, number_of(cell)?),
         Clock::Rows => match last {
@@ -69,6 +89,7 @@ pub(crate) fn end_at(clock: Clock, last: u64, events: &mut Vec<Event>) -> Result
             Some(time) => say(events, Event::At(time)),
             None => Err(Refusal::Time),
         },
+        Clock::Whole(_) => Err(Refusal::Whole),
         Clock::Unknown | Clock::Undecided(_) | Clock::Ticks | Clock::Periods(_) | Clock::Seconds =>
             Ok(()),
     }

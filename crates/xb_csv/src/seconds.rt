@@ -12,8 +12,8 @@ const FRACTION_DIGITS: usize = 9;
 // Times below 0 are counted back from here.
 const ORIGIN: u64 = 1 << 62;
 
-// Whether a text has digits alone.
-fn is_number(text: &[u8]) -> bool
+/// Whether a text has digits alone.
+pub(crate) fn is_number(text: &[u8]) -> bool
     ensures { result ≡ is_number text.now }
 {
     text.iter().all(|byte| is_digit(*byte))

@@ -109,7 +109,8 @@ fn write_dump<W: Write>(
 ) -> Result<(), DialFault>
     ensures whole { OnOk result
         (Appends (W.contents out.old) (W.contents out.new) (trace_text bouncing rows.now)) }
-    ensures beginning { AppendsBeginning (W.contents out.old) (W.contents out.new) (trace_text bouncing rows.now) }
+    ensures beginning { AppendsBeginning (W.contents out.old) (W.contents out.new)
+        (trace_text bouncing rows.now) }
     ensures read { OnOk result (IsReadBack (forms.Trace bouncing) rows.now) }
     ensures read_partly { IfErr result (λ f. WhereWritten f (IsReadBack (forms.Trace bouncing) rows.now)) }
     ensures fault { IfErr result (IsFaultOfPrinting (forms.Trace bouncing) rows.now) }
@@ -129,7 +130,8 @@ fn write_rows<W: Write>(
 ) -> Result<(), DialFault>
     ensures whole { OnOk result
         (Appends (W.contents out.old) (W.contents out.new) (printed_of form rows.now)) }
-    ensures beginning { AppendsBeginning (W.contents out.old) (W.contents out.new) (printed_of form rows.now) }
+    ensures beginning { AppendsBeginning (W.contents out.old) (W.contents out.new)
+        (printed_of form rows.now) }
     ensures read { OnOk result (IsReadBack form rows.now) }
     ensures read_partly { IfErr result (λ f. WhereWritten f (IsReadBack form rows.now)) }
     ensures fault { IfErr result (IsFaultOfPrinting form rows.now) }
@@ -157,7 +159,8 @@ pub fn dial<R: Read, W: Write>(
     out: &mut W,
 ) -> Result<(), DialFault>
     ensures judged { JudgesSpeed request.now.manner result }
-    ensures rows { Delivers request.now (R.remaining calls.old) result (W.contents out.old) (W.contents out.new) }
+    ensures rows { Delivers request.now (R.remaining calls.old) result
+        (W.contents out.old) (W.contents out.new) }
 {
     judge_speed(request.manner)?;
     let text = read_whole(alloc, calls, MOST_TEXT_BYTES)?;

@@ -1,8 +1,9 @@
 -- What was taken of a recording, put down, and written.
-use Rattle.std.proofs.Common.{◌≡◌, ◌⊎◌, ℕ, List, [], ◌∷◌, ◌++◌, Bool, true, false, refl, ap, sym, subst, ◌∙◌, append_assoc, append-nil, inl, inr, string_bytes, ◌+◌, ◌<◌, suc, take, drop, get_or, length, take-append-drop, drop-cons}
+use Rattle.std.proofs.Common.{◌≡◌, ◌⊎◌, ℕ, List, [], ◌∷◌, ◌++◌, Bool, true, false, refl, ap, sym, subst, ◌∙◌, append_assoc, append-nil, inl, inr, string_bytes, ◌+◌, ◌-◌, ◌<◌, arith, suc, take, drop, get_or, length, take-append-drop, drop-cons}
 use Rattle.std.specs.List.{flat_map}
+use Rattle.std.specs.Prelude.{slice_range}
 use Rattle.std.proofs.lemmas.Grind.{flat_map-append}
-use Rattle.std.proofs.lemmas.List.{take_more}
+use Rattle.std.proofs.lemmas.List.{drop-take, take-take, take_more, take_rest}
 use Rattle.xb_contact.specs.declared.event.Event.{Event}
 use Rattle.xb_contact.specs.declared.event.Refusal.{Refusal}
 use Rattle.xb_contact.specs.declared.event.Refusal.TheVariants as refusals
@@ -318,6 +319,28 @@ pub fault_next :
 fault_next kind a b c piece i d fault lt p f =
     fault_then kind a b c (take i piece) (get_or piece i d ∷ []) (drop (suc i) piece) piece fault p f
     (sym (take-append-drop i piece) ∙ ap (λ rest. take i piece ++ rest) (drop-cons piece i d lt))
+
+-- so many bytes more of a piece, and the rest of it
+pub part_more :
+    (piece : List ℕ) (start count : ℕ) → take start piece ++ slice_range piece start (start + count) ≡ take (start + count) piece
+part_more piece start count =
+    let more : start + count - start ≡ count = omega arith in
+    let all : List ℕ = take (start + count) piece in
+    ap (λ n. take start piece ++ take n (drop start piece)) more
+    ∙ ap (λ part. take start piece ++ part) (sym (drop-take start count piece))
+    ∙ ap (λ first. first ++ drop start all) (sym (take-take start (start + count) piece (omega arith)))
+    ∙ take-append-drop start all
+
+pub part_last : (piece : List ℕ) (start : ℕ) → take start piece ++ slice_range piece start (length piece) ≡ piece
+part_last piece start = ap (λ rest. take start piece ++ rest) (take_rest piece start) ∙ take-append-drop start piece
+
+pub part_rest :
+    (piece : List ℕ) (start count : ℕ)
+    → piece ≡ take start piece ++ (slice_range piece start (start + count) ++ drop (start + count) piece)
+part_rest piece start count =
+    sym (take-append-drop (start + count) piece)
+    ∙ ap (λ first. first ++ drop (start + count) piece) (sym (part_more piece start count))
+    ∙ append_assoc (take start piece) (slice_range piece start (start + count)) (drop (start + count) piece)
 
 -- samples are no text
 pub not_text : (b : Bool) (P : Type 0) → b ≡ false → b ≡ true → P

@@ -9,13 +9,12 @@ use Rattle.std.proofs.lemmas.Bool.{eqb-false, eqb-true, le-leb, lt-leb, ltb-fals
 use Rattle.std.specs.List.{starts_with}
 use Rattle.std.proofs.lemmas.List.{drop_all, length-take-le, take-append-le, take_all}
 use Rattle.xb_contact.specs.declared.event.Refusal.{Refusal}
-use Rattle.xb_contact.specs.declared.event.Refusal.TheVariants as refusals
 use Rattle.xb_recording.specs.declared.beginning.Told.{Told}
 use Rattle.xb_recording.specs.declared.beginning.Told.TheVariants as tolds
 use Rattle.xb_recording.specs.declared.format.Format.{Format}
 use Rattle.xb_recording.specs.Beginnings.{all_passed_over, form_told, is_archive, tells_nothing_yet, told_within, why_untold}
 use Rattle.xb_recording.specs.Says.{text_lines}
-use Rattle.xb_recording.proofs.ToldWithin.{told_stays, why_form, why_same}
+use Rattle.xb_recording.proofs.ToldWithin.{told_stays, why_same}
 use Rattle.xb_feed.specs.declared.beginning.TheConstants.{MOST_BEGINNING_BYTES}
 use Rattle.xb_feed.specs.declared.fault.RecordingFault.TheVariants as faults
 use Rattle.xb_feed.specs.declared.reading.Unread.{Unread}
@@ -127,7 +126,7 @@ most_is = refl
 pub untold_long :
     (input left : Option (List ℕ)) (bytes : List ℕ) → Consumes input left bytes
     → MOST_BEGINNING_BYTES ≤ length bytes → tells_nothing_yet (take MOST_BEGINNING_BYTES bytes) ≡ true
-    → IfSome input (λ text. IsUntold text (faults.Beginning refusals.Form))
+    → IfSome input (λ text. IsUntold text (faults.Beginning (why_untold (take MOST_BEGINNING_BYTES bytes))))
 untold_long None left bytes read long none = tt
 untold_long (Some text) None bytes read long none = absurd read
 untold_long (Some text) (Some rest) bytes read long none =
@@ -139,11 +138,10 @@ untold_long (Some text) (Some rest) bytes read long none =
     let nothing : tells_nothing_yet (take MOST_BEGINNING_BYTES text) ≡ true = ap tells_nothing_yet same ∙ none in
     let first : List ℕ = take MOST_BEGINNING_BYTES text in
     let four : 4 ≤ length first = omega (arith, taken, most_is) in
-    let why : why_untold text ≡ refusals.Form =
+    let why : why_untold text ≡ why_untold first =
     ap why_untold (sym (take-append-drop MOST_BEGINNING_BYTES text))
-    ∙ why_same first (drop MOST_BEGINNING_BYTES text) false (λ e. absurd (true≢false (sym e))) (λ e. four)
-    ∙ why_form first four nothing in (
-      sym why,
+    ∙ why_same first (drop MOST_BEGINNING_BYTES text) false (λ e. absurd (true≢false (sym e))) (λ e. four) in (
+      sym (why ∙ ap why_untold same),
       record {
         beginning = within_none MOST_BEGINNING_BYTES text (omega (arith, taken)) nothing;
         whole = inr (omega (arith, size, long), nothing);

@@ -3,12 +3,12 @@ ghost use Rattle.std.specs.Prelude.{◌≡◌, None, IfErr, IfNone, IfOk, IfSome
 ghost use Rattle.std.specs.Io.KnownBytes.{Consumes};
 ghost use Rattle.xb_feed.specs.Beginnings.{IsUntold, TellsForm};
 ghost use Rattle.xb_feed.specs.declared.beginning.TheConstants.{MOST_BEGINNING_BYTES};
+ghost use Rattle.xb_recording.specs.Beginnings.{why_untold};
 
 use crate::fault::RecordingFault;
 use crate::reading::{BUFFER_BYTES, read_once};
 use std::alloc::{AllocError, Global};
 use std::io::Read;
-use xb_contact::Refusal;
 use xb_recording::{Format, Told, told_format, why_untold};
 
 // The most bytes of a recording that are looked at to tell its form: two of the longest text lines.
@@ -22,6 +22,13 @@ pub(crate) fn first_bytes(text: &[u8], most: usize) -> &[u8]
         return text;
     }
     &text[..most]
+}
+
+// Why the beginning of a recording tells no form.
+fn untold_by(bytes: &[u8]) -> RecordingFault
+    ensures { result ≡ RecordingFault.Beginning (why_untold (take MOST_BEGINNING_BYTES bytes.now)) }
+{
+    RecordingFault::Beginning(why_untold(first_bytes(bytes, MOST_BEGINNING_BYTES)))
 }
 
 // The beginning of a recording, as far as it tells its form, and that form.
@@ -50,7 +57,7 @@ fn told_beginning<R: Read>(
             Told::More => {}
         }
     }
-    Err(RecordingFault::Beginning(Refusal::Form))
+    Err(untold_by(&bytes))
 }
 
 /// The form of a recording, the one that is asked for or else that which it tells, and what was read of it to tell it:

@@ -23,6 +23,9 @@ use xb_text::write_whole;
 // How many bytes of a line are told where it is refused.
 const MOST_SHOWN_BYTES: usize = 40;
 
+// So many bytes of samples are taken at once.
+const PART_BYTES: usize = 64;
+
 // What was read of a recording, and what is told of it and is not written yet.
 #[derive(Drop)]
 struct Intake<'a, C, G> {
@@ -139,8 +142,8 @@ impl<'a, G: Copy + Drop, C: Follow<G> + Drop> Intake<'a, C, G> {
         Ok(())
     }
 
-    // A piece of samples.
-    fn take_samples(&mut self, piece: &[u8]) -> Result<(), RecordingFault>
+    // A few samples.
+    fn take_part(&mut self, piece: &[u8]) -> Result<(), RecordingFault>
         requires { is_text self.old.reader.source ≡ false }
         ensures taken { OnOk result (GoesOn C.rules self.old piece.now self.new) }
         ensures fault { IfErr result (IsFaultOfPiece C.rules self.old piece.now self.new) }
@@ -150,6 +153,20 @@ impl<'a, G: Copy + Drop, C: Follow<G> + Drop> Intake<'a, C, G> {
         }
         self.take_events()?;
         Ok(())
+    }
+
+    // A piece of samples, a few at a time: what is told of lines comes in the order of time, however many are read at once.
+    fn take_samples(&mut self, piece: &[u8]) -> Result<(), RecordingFault>
+        requires { is_text self.old.reader.source ≡ false }
+        ensures taken { OnOk result (GoesOn C.rules self.old piece.now self.new) }
+        ensures fault { IfErr result (IsFaultOfPiece C.rules self.old piece.now self.new) }
+    {
+        let mut start = 0;
+        while piece.len() - start > PART_BYTES {
+            self.take_part(&piece[start..start + PART_BYTES])?;
+            start += PART_BYTES;
+        }
+        self.take_part(&piece[start..])
     }
 
     // A piece of the recording.

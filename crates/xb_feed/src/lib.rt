@@ -11,7 +11,8 @@
 //! - `Unread`: a read that failed. `read_once` and `Reads` alone make it, so no other fault is told as one.
 //! - A refused piece of a recording is told by its place, its reason and what stands there (`Faults`). Where it lacks a wire,
 //!   the first such name of the command line is known (`missing_name`).
-//! - `Tally` (`laws::the_short_runs_are_counted`): the runs of a contact that are too short to settle, and the longest.
+//! - `Tally` (`laws::the_bounces_are_counted`): the bounces of a contact, and the longest, from
+//!   its first touch to the rest.
 //! - `request_of` (`Say`): what the words of a command line ask for of a recording: its lines, their wires, and how each
 //!   line is listened to (`OwnWords`).
 //!

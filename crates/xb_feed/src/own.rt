@@ -222,7 +222,8 @@ impl Own {
 /// What a line says of itself in words between commas: `inverted`, `ringing`, `settle=MS` and `seize=MS`, each once; or why
 /// the first other word is none.
 pub(crate) fn own_of(words: Option<&[u8]>) -> Result<Own, &'static str>
-    ensures said { IfOk result (λ own. own_after no_own (pieces_left 44 (option_copied words.entry)) ≡ Some own) }
+    ensures said { IfOk result (λ own.
+        own_after no_own (pieces_left 44 (option_copied words.entry)) ≡ Some own) }
     ensures none { IfErr result (λ _. own_after no_own (pieces_left 44 (option_copied words.entry)) ≡ None) }
 {
     let mut own = NO_OWN;

@@ -8,6 +8,8 @@ use Rattle.xb_keys.specs.Keys.{key_text}
 use Rattle.xb_routes.specs.LimitFaults.{limit_fault}
 use Rattle.xb_routes.specs.declared.fault.LimitFault.{LimitFault}
 use Rattle.xb_routes.specs.declared.fault.LimitFault.TheVariants as broken
+use Rattle.xb_routes.specs.declared.fault.NumberFault.{NumberFault}
+use Rattle.xb_routes.specs.declared.fault.NumberFault.TheVariants as number
 use Rattle.xb_routes.specs.declared.fault.RouteFault.{RouteFault}
 use Rattle.xb_routes.specs.declared.fault.RouteFault.TheVariants as fault
 
@@ -48,6 +50,16 @@ abbrev pub limit_words : Option LimitFault → List ℕ
 limit_words None = codes "a limit is wrong"
 limit_words (Some rule) = rule_words rule
 
+-- the rule that an entry of numbers breaks, in words
+abbrev pub number_words : NumberFault → List ℕ
+number_words number.Shape = codes "this entry lacks begins or digits, or one of its keys has another kind of value"
+number_words number.Begins = codes "begins is not 0 to 3 digits"
+number_words number.Digits = codes "digits is not 1 to 10"
+number_words number.Short = codes "the numbers have fewer digits than they begin with"
+number_words number.Twice = codes "an earlier entry begins with the same digits"
+number_words number.Outgrown =
+    codes "the numbers have fewer digits than another entry begins with that goes on from this one"
+
 -- the fault by which a route table is refused, in words
 abbrev pub route_words : RouteFault → List ℕ
 route_words fault.NotToml = codes "the table is not TOML"
@@ -55,20 +67,26 @@ route_words fault.Plan = codes "plan is neither 7 nor 10"
 route_words (fault.Limits n) = limit_words (limit_fault n)
 route_words fault.TooMany = codes "there are more than 1000 routes"
 route_words (fault.Shape n) = codes "this route lacks code or trunk, or one of its keys has another kind of value"
-route_words (fault.Code n) = codes "the code is not 0, NNX or N11, nor one of plan 10"
+route_words (fault.Code n) =
+    codes "the code is not 0, NNX or N11, nor one of plan 10; by [[number]] it is not 1 to 9 digits of a number"
 route_words (fault.Trunk n) = codes "the trunk group is not 0 to 9999"
 route_words (fault.Delete n) = codes "more digits are deleted than the numbers of this code have"
 route_words (fault.Prefix n) = codes "the prefix is not 0 to 8 digits"
 route_words (fault.NothingToKey n) = codes "all digits are deleted, and none is put before them"
 route_words (fault.Twice n) = codes "an earlier route has this code"
 route_words fault.NoMemory = codes "out of memory"
+route_words fault.PlanAndNumber =
+    codes "there are both plan and [[number]], and either says how long numbers are"
+route_words fault.TooManyNumbers = codes "there are more than 100 entries [[number]]"
+route_words (fault.Number n rule) = number_words rule
 
 -- what is wrong, in words
 abbrev pub what_text : What → List ℕ
-what_text what.Table = codes "no rule names this heading; there are [limits] and [[route]]"
-what_text what.TopKey = codes "no rule names this key; here are plan, limits and route"
+what_text what.Table = codes "no rule names this heading; there are [limits], [[number]] and [[route]]"
+what_text what.TopKey = codes "no rule names this key; here are plan, limits, number and route"
 what_text what.LimitKey = codes "no rule names this key; here are pulse_min, pulse_max, make_min, pause, release and timeout"
 what_text what.RouteKey = codes "no rule names this key; here are code, trunk, delete and prefix, and send for mftandem and mfroute"
+what_text what.NumberKey = codes "no rule names this key; here are begins and digits"
 what_text (what.Routes f) = route_words f
 what_text what.NearCut = codes "this line is nearly ---; three hyphens have to stand alone, and LF or CR LF after them"
 what_text what.Semicolons = codes "the fields are separated by ; and not by ,"

@@ -72,6 +72,7 @@ abbrev pub wrong_heading : Section → Option What
 wrong_heading section.Top = None
 wrong_heading section.Limits = None
 wrong_heading section.Route = None
+wrong_heading section.Number = None
 wrong_heading section.Other = Some what.Table
 
 -- what is said of a key that no rule of its section names
@@ -79,6 +80,7 @@ abbrev pub unnamed : Section → What
 unnamed section.Top = what.TopKey
 unnamed section.Limits = what.LimitKey
 unnamed section.Route = what.RouteKey
+unnamed section.Number = what.NumberKey
 unnamed section.Other = what.Table
 
 -- what is wrong at a spot, with the key that may have been meant
@@ -86,6 +88,7 @@ abbrev pub wrong_key : Section → Option Key → Option (What × Option Key)
 wrong_key section.Top near = Some (unnamed section.Top, near)
 wrong_key section.Limits near = Some (unnamed section.Limits, near)
 wrong_key section.Route near = Some (unnamed section.Route, near)
+wrong_key section.Number near = Some (unnamed section.Number, near)
 wrong_key section.Other near = None
 
 abbrev pub wrong_mark : Section → Mark → Option (What × Option Key)

@@ -128,6 +128,7 @@ from_field what.Table line = line
 from_field what.TopKey line = line
 from_field what.LimitKey line = line
 from_field what.RouteKey line = line
+from_field what.NumberKey line = line
 from_field (what.Routes f) line = line
 from_field what.NearCut line = line
 from_field what.Semicolons line = line

@@ -1,7 +1,7 @@
 // Which place of a text its fault is about.
 ghost use Rattle.std.specs.Prelude.{◌≡◌, ◌≤◌, ◌<◌, ◌+◌, ◌^◌, OnOk, length};
 ghost use Rattle.xb_deck.specs.declared.deck.TheConstants.{MOST_DECK_BYTES};
-ghost use Rattle.xb_findings.specs.Sites.{begins_number, begins_text, first_about, first_misfit, is_about, is_about_heading, is_about_key, is_misfit, is_not_toml, is_other_kind, keys_about, limits_about, limits_of_rule, may_begin, route_about, route_here, routes_after, site_of, told_of_fault, told_of_table};
+ghost use Rattle.xb_findings.specs.Sites.{begins_number, begins_text, first_about, first_misfit, in_numbers, is_about, is_about_heading, is_about_key, is_misfit, is_not_toml, is_other_kind, keys_about, limits_about, limits_of_rule, may_begin, number_keys, item_about, item_here, items_after, site_of, told_of_fault, told_of_table};
 ghost use Rattle.xb_findings.specs.Tallies.{tallied, with_all};
 ghost use Rattle.xb_routes.specs.LimitFaults.{limit_fault};
 
@@ -12,7 +12,7 @@ use crate::tally::Tally;
 use std::alloc::{AllocError, Global};
 use xb_deck::DeckFault;
 use xb_keys::{Key, Mark, Section, Spot, key_named, spots_of};
-use xb_routes::{LimitFault, RouteFault};
+use xb_routes::{LimitFault, NumberFault, RouteFault};
 
 // The limits that a rule of limits is about.
 fn limits_about(rule: LimitFault) -> &'static [Key]
@@ -43,62 +43,92 @@ fn limits_of_number(number: u32) -> &'static [Key]
     }
 }
 
+// The keys that a rule of an entry of numbers is about; with none, its heading.
+fn number_keys(rule: NumberFault) -> &'static [Key]
+    ensures { result.now ≡ number_keys rule }
+{
+    match rule {
+        NumberFault::Shape => &[],
+        NumberFault::Begins | NumberFault::Twice => &[Key::Begins],
+        NumberFault::Digits | NumberFault::Short | NumberFault::Outgrown => &[Key::Digits],
+    }
+}
+
 // The keys that a fault is about.
 fn keys_about(fault: RouteFault) -> &'static [Key]
     ensures { result.now ≡ keys_about fault }
 {
     match fault {
-        RouteFault::Plan => &[Key::Plan],
+        RouteFault::Plan | RouteFault::PlanAndNumber => &[Key::Plan],
         RouteFault::Limits(number) => limits_of_number(number),
         RouteFault::Code(_) | RouteFault::Twice(_) => &[Key::Code],
         RouteFault::Trunk(_) => &[Key::Trunk],
         RouteFault::Delete(_) | RouteFault::NothingToKey(_) => &[Key::Delete],
         RouteFault::Prefix(_) => &[Key::Prefix],
         RouteFault::Shape(0) => &[Key::Route],
-        RouteFault::NotToml | RouteFault::TooMany | RouteFault::Shape(_) | RouteFault::NoMemory =>
-            &[],
+        RouteFault::Number(0, _) => &[Key::Number],
+        RouteFault::Number(_, rule) => number_keys(rule),
+        RouteFault::NotToml
+        | RouteFault::TooMany
+        | RouteFault::Shape(_)
+        | RouteFault::NoMemory
+        | RouteFault::TooManyNumbers => &[],
     }
 }
 
-// The route that a fault is about, the first being 1; 0 where it is about none.
-fn route_about(fault: RouteFault) -> usize
-    ensures { result ≡ route_about fault }
+// Whether a fault is about an entry of numbers, and not about a route.
+fn in_numbers(fault: RouteFault) -> bool
+    ensures { result ≡ in_numbers fault }
+{
+    matches!(fault, RouteFault::TooManyNumbers | RouteFault::Number(_, _))
+}
+
+// The route, or the entry of numbers, that a fault is about, the first being 1; 0 where it is about none.
+fn item_about(fault: RouteFault) -> usize
+    ensures { result ≡ item_about fault }
 {
     match fault {
-        RouteFault::Shape(route)
-        | RouteFault::Code(route)
-        | RouteFault::Trunk(route)
-        | RouteFault::Delete(route)
-        | RouteFault::Prefix(route)
-        | RouteFault::NothingToKey(route)
-        | RouteFault::Twice(route) => route as usize,
+        RouteFault::Shape(item)
+        | RouteFault::Code(item)
+        | RouteFault::Trunk(item)
+        | RouteFault::Delete(item)
+        | RouteFault::Prefix(item)
+        | RouteFault::NothingToKey(item)
+        | RouteFault::Twice(item)
+        | RouteFault::Number(item, _) => item as usize,
         RouteFault::TooMany => 1001,
-        RouteFault::NotToml | RouteFault::Plan | RouteFault::Limits(_) | RouteFault::NoMemory => 0,
+        RouteFault::TooManyNumbers => 101,
+        RouteFault::NotToml
+        | RouteFault::Plan
+        | RouteFault::Limits(_)
+        | RouteFault::NoMemory
+        | RouteFault::PlanAndNumber => 0,
     }
 }
 
-// The route that a text line of a section stands in, after this many headings of routes; 0 in another section.
-fn route_here(section: Section, routes: usize) -> usize
-    ensures { result ≡ route_here section routes }
+// The route, or the entry of numbers, that a text line of a section stands in, after this many headings of these; 0 in
+// another section.
+fn item_here(numbers: bool, section: Section, items: usize) -> usize
+    ensures { result ≡ item_here numbers section items }
 {
-    match section {
-        Section::Route => routes,
-        Section::Top | Section::Limits | Section::Other => 0,
+    match (section, numbers) {
+        (Section::Route, false) | (Section::Number, true) => items,
+        _ => 0,
     }
 }
 
-// Whether a fault is about the heading of a route.
-fn is_about_heading(fault: RouteFault, route: usize) -> bool
-    ensures { result ≡ is_about_heading fault route }
+// Whether a fault is about the heading of a route, or of an entry of numbers.
+fn is_about_heading(fault: RouteFault, item: usize) -> bool
+    ensures { result ≡ is_about_heading fault item }
 {
-    keys_about(fault).is_empty() && 0 < route && route == route_about(fault)
+    keys_about(fault).is_empty() && 0 < item && item == item_about(fault)
 }
 
 // Whether it is about a key.
-fn is_about_key(fault: RouteFault, key: Key, route: usize) -> bool
-    ensures { result ≡ is_about_key fault key route }
+fn is_about_key(fault: RouteFault, key: Key, item: usize) -> bool
+    ensures { result ≡ is_about_key fault key item }
 {
-    key_named(key.text().as_bytes(), keys_about(fault)).is_some() && route == route_about(fault)
+    key_named(key.text().as_bytes(), keys_about(fault)).is_some() && item == item_about(fault)
 }
 
 // Whether it is that the table is not TOML.
@@ -108,27 +138,27 @@ fn is_not_toml(fault: RouteFault) -> bool
     matches!(fault, RouteFault::NotToml)
 }
 
-// Whether it is about what stands at a spot of a route.
-fn is_about(fault: RouteFault, route: usize, mark: Mark) -> bool
-    ensures { result ≡ is_about fault route mark }
+// Whether it is about what stands at a spot of one.
+fn is_about(fault: RouteFault, item: usize, mark: Mark) -> bool
+    ensures { result ≡ is_about fault item mark }
 {
     match mark {
-        Mark::Heading => is_about_heading(fault, route),
-        Mark::Named(key) => is_about_key(fault, key, route),
+        Mark::Heading => is_about_heading(fault, item),
+        Mark::Named(key) => is_about_key(fault, key, item),
         Mark::Unnamed(_) => false,
         Mark::Broken => is_not_toml(fault),
     }
 }
 
-// How many routes there are after a spot, which stands in a section.
-fn routes_after(section: Section, routes: usize, mark: Mark) -> usize
-    requires { routes + 1 < 2 ^ 64 }
-    ensures count { result ≡ routes_after section routes mark }
-    ensures most { result ≤ routes + 1 }
+// How many routes, or entries of numbers, there are after a spot, which stands in a section.
+fn items_after(numbers: bool, section: Section, items: usize, mark: Mark) -> usize
+    requires { items + 1 < 2 ^ 64 }
+    ensures count { result ≡ items_after numbers section items mark }
+    ensures most { result ≤ items + 1 }
 {
     match mark {
-        Mark::Heading => routes + route_here(section, 1),
-        Mark::Named(_) | Mark::Unnamed(_) | Mark::Broken => routes,
+        Mark::Heading => items + item_here(numbers, section, 1),
+        Mark::Named(_) | Mark::Unnamed(_) | Mark::Broken => items,
     }
 }
 
@@ -136,10 +166,11 @@ fn routes_after(section: Section, routes: usize, mark: Mark) -> usize
 fn first_about(fault: RouteFault, spots: &[Spot]) -> Option<Spot>
     ensures { result ≡ first_about fault 0 spots.now }
 {
-    let mut routes = 0;
+    let numbers = in_numbers(fault);
+    let mut items = 0;
     for spot in spots {
-        routes = routes_after(spot.section, routes, spot.mark);
-        if is_about(fault, route_here(spot.section, routes), spot.mark) {
+        items = items_after(numbers, spot.section, items, spot.mark);
+        if is_about(fault, item_here(numbers, spot.section, items), spot.mark) {
             return Some(*spot);
         }
     }
@@ -160,13 +191,13 @@ fn begins_number(byte: u8) -> bool
     byte.is_ascii_digit() || byte == b'+' || byte == b'-'
 }
 
-// Whether a value that begins with a byte may be of the kind that a key of a route wants.
+// Whether a value that begins with a byte may be of the kind that a key of a route, or of an entry of numbers, wants.
 fn may_begin(key: Key, byte: u8) -> bool
     ensures { result ≡ may_begin key byte }
 {
     match key {
-        Key::Code | Key::Prefix => begins_text(byte),
-        Key::Trunk | Key::Delete => begins_number(byte),
+        Key::Code | Key::Prefix | Key::Begins => begins_text(byte),
+        Key::Trunk | Key::Delete | Key::Digits => begins_number(byte),
         Key::Plan
         | Key::Limits
         | Key::Route
@@ -175,26 +206,29 @@ fn may_begin(key: Key, byte: u8) -> bool
         | Key::MakeMin
         | Key::Pause
         | Key::Release
-        | Key::Timeout => true,
+        | Key::Timeout
+        | Key::Number => true,
     }
 }
 
-// Whether a fault is that a key of a route has a value of another kind.
-fn is_other_kind(fault: RouteFault, route: usize, key: Key, byte: u8) -> bool
-    ensures { result ≡ is_other_kind fault route key byte }
+// Whether a fault is that a key of a route, or of an entry of numbers, has a value of another kind.
+fn is_other_kind(fault: RouteFault, item: usize, key: Key, byte: u8) -> bool
+    ensures { result ≡ is_other_kind fault item key byte }
 {
     match fault {
-        RouteFault::Shape(n) => route == n as usize && !may_begin(key, byte),
+        RouteFault::Shape(n) | RouteFault::Number(n, NumberFault::Shape) => {
+            0 < item && item == n as usize && !may_begin(key, byte)
+        }
         _ => false,
     }
 }
 
-// Whether it is that of what stands at a spot of a route, whose value begins with a byte.
-fn is_misfit(fault: RouteFault, route: usize, mark: Mark, byte: u8) -> bool
-    ensures { result ≡ is_misfit fault route mark byte }
+// Whether it is that of what stands at a spot of one, whose value begins with a byte.
+fn is_misfit(fault: RouteFault, item: usize, mark: Mark, byte: u8) -> bool
+    ensures { result ≡ is_misfit fault item mark byte }
 {
     match mark {
-        Mark::Named(key) => is_other_kind(fault, route, key, byte),
+        Mark::Named(key) => is_other_kind(fault, item, key, byte),
         Mark::Heading | Mark::Unnamed(_) | Mark::Broken => false,
     }
 }
@@ -203,11 +237,12 @@ fn is_misfit(fault: RouteFault, route: usize, mark: Mark, byte: u8) -> bool
 fn first_misfit(fault: RouteFault, spots: &[Spot]) -> Option<Spot>
     ensures { result ≡ first_misfit fault 0 spots.now }
 {
-    let mut routes = 0;
+    let numbers = in_numbers(fault);
+    let mut items = 0;
     for spot in spots {
-        routes = routes_after(spot.section, routes, spot.mark);
-        let route = route_here(spot.section, routes);
-        if is_misfit(fault, route, spot.mark, spot.value) {
+        items = items_after(numbers, spot.section, items, spot.mark);
+        let item = item_here(numbers, spot.section, items);
+        if is_misfit(fault, item, spot.mark, spot.value) {
             return Some(*spot);
         }
     }

@@ -1,10 +1,10 @@
 // What is wrong in a deck, and where.
 ghost use Rattle.std.specs.Prelude.{◌≡◌};
-ghost use Rattle.xb_findings.specs.Findings.{kind_text, limit_words, route_words, rule_words, what_text};
+ghost use Rattle.xb_findings.specs.Findings.{kind_text, limit_words, number_words, route_words, rule_words, what_text};
 ghost use Rattle.xb_routes.specs.LimitFaults.{limit_fault};
 
 use xb_keys::Key;
-use xb_routes::{LimitFault, RouteFault};
+use xb_routes::{LimitFault, NumberFault, RouteFault};
 
 /// What is wrong with a text line of a deck.
 #[derive(Clone, Copy, Debug, PartialEq, Eq)]
@@ -17,6 +17,8 @@ pub enum What {
     LimitKey,
     /// The key is not one that rules name below `[[route]]`.
     RouteKey,
+    /// The key is not one that rules name below `[[number]]`.
+    NumberKey,
     /// By this the route table is refused.
     Routes(RouteFault),
     /// The deck has no line that cuts it, and this one may be meant.
@@ -99,6 +101,24 @@ fn limit_words(number: u32) -> &'static str
     }
 }
 
+// The rule that an entry of numbers breaks, in words.
+fn number_words(rule: NumberFault) -> &'static str
+    ensures { result.now ≡ number_words rule }
+{
+    match rule {
+        NumberFault::Shape => {
+            "this entry lacks begins or digits, or one of its keys has another kind of value"
+        }
+        NumberFault::Begins => "begins is not 0 to 3 digits",
+        NumberFault::Digits => "digits is not 1 to 10",
+        NumberFault::Short => "the numbers have fewer digits than they begin with",
+        NumberFault::Twice => "an earlier entry begins with the same digits",
+        NumberFault::Outgrown => {
+            "the numbers have fewer digits than another entry begins with that goes on from this one"
+        }
+    }
+}
+
 // The fault by which a route table is refused, in words.
 fn route_words(fault: RouteFault) -> &'static str
     ensures { result.now ≡ route_words fault }
@@ -111,13 +131,19 @@ fn route_words(fault: RouteFault) -> &'static str
         RouteFault::Shape(_) => {
             "this route lacks code or trunk, or one of its keys has another kind of value"
         }
-        RouteFault::Code(_) => "the code is not 0, NNX or N11, nor one of plan 10",
+        RouteFault::Code(_) => {
+            "the code is not 0, NNX or N11, nor one of plan 10; by [[number]] it is not 1 to 9 digits of a number"
+        }
         RouteFault::Trunk(_) => "the trunk group is not 0 to 9999",
         RouteFault::Delete(_) => "more digits are deleted than the numbers of this code have",
         RouteFault::Prefix(_) => "the prefix is not 0 to 8 digits",
         RouteFault::NothingToKey(_) => "all digits are deleted, and none is put before them",
         RouteFault::Twice(_) => "an earlier route has this code",
         RouteFault::NoMemory => "out of memory",
+        RouteFault::PlanAndNumber =>
+            "there are both plan and [[number]], and either says how long numbers are",
+        RouteFault::TooManyNumbers => "there are more than 100 entries [[number]]",
+        RouteFault::Number(_, rule) => number_words(rule),
     }
 }
 
@@ -138,14 +164,16 @@ impl What {
         ensures { result.now ≡ what_text self }
     {
         match self {
-            What::Table => "no rule names this heading; there are [limits] and [[route]]",
-            What::TopKey => "no rule names this key; here are plan, limits and route",
+            What::Table =>
+                "no rule names this heading; there are [limits], [[number]] and [[route]]",
+            What::TopKey => "no rule names this key; here are plan, limits, number and route",
             What::LimitKey => {
                 "no rule names this key; here are pulse_min, pulse_max, make_min, pause, release and timeout"
             }
             What::RouteKey => {
                 "no rule names this key; here are code, trunk, delete and prefix, and send for mftandem and mfroute"
             }
+            What::NumberKey => "no rule names this key; here are begins and digits",
             What::Routes(fault) => route_words(fault),
             What::NearCut => {
                 "this line is nearly ---; three hyphens have to stand alone, and LF or CR LF after them"

@@ -176,6 +176,7 @@ fn from_field(what: What, line: &[u8]) -> &[u8]
         | What::TopKey
         | What::LimitKey
         | What::RouteKey
+        | What::NumberKey
         | What::Routes(_)
         | What::NearCut
         | What::Semicolons

@@ -161,7 +161,7 @@ fn wrong_heading(section: Section) -> Option<What>
     ensures { result ≡ spec.wrong_heading section }
 {
     match section {
-        Section::Top | Section::Limits | Section::Route => None,
+        Section::Top | Section::Limits | Section::Route | Section::Number => None,
         Section::Other => Some(What::Table),
     }
 }
@@ -174,6 +174,7 @@ fn unnamed(section: Section) -> What
         Section::Top => What::TopKey,
         Section::Limits => What::LimitKey,
         Section::Route => What::RouteKey,
+        Section::Number => What::NumberKey,
         Section::Other => What::Table,
     }
 }
@@ -183,7 +184,9 @@ fn wrong_key(section: Section, near: Option<Key>) -> Option<(What, Option<Key>)>
     ensures { result ≡ spec.wrong_key section near }
 {
     match section {
-        Section::Top | Section::Limits | Section::Route => Some((unnamed(section), near)),
+        Section::Top | Section::Limits | Section::Route | Section::Number => {
+            Some((unnamed(section), near))
+        }
         Section::Other => None,
     }
 }

@@ -13,7 +13,7 @@ pub const TOLD_OF_A_KIND: usize = 10;
 pub(crate) const MOST_COUNTED: usize = 1_000_000_000;
 
 /// How many kinds there are.
-pub(crate) const KINDS: usize = 22;
+pub(crate) const KINDS: usize = 23;
 
 /// Each kind, by one of it.
 pub const EACH_KIND: &[What] = &[
@@ -39,12 +39,13 @@ pub const EACH_KIND: &[What] = &[
     What::Microseconds,
     What::Nanoseconds,
     What::Ringing,
+    What::NumberKey,
 ];
 
 // The number of a kind.
 fn kind_of(what: What) -> usize
     ensures number { result ≡ kind_of what }
-    ensures below { result < 22 }
+    ensures below { result < 23 }
 {
     match what {
         What::Table => 0,
@@ -69,6 +70,7 @@ fn kind_of(what: What) -> usize
         What::Microseconds => 19,
         What::Nanoseconds => 20,
         What::Ringing => 21,
+        What::NumberKey => 22,
     }
 }
 

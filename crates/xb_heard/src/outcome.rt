@@ -58,7 +58,7 @@ pub(crate) fn outcome_of(plan: Plan, digits: &[HeardDigit], timed: bool) -> Dial
             return refused(Reason::Mutilated, &good);
         };
         good.push(value);
-        if is_reached(plan, good.digits()) {
+        if is_reached(&plan, good.digits()) {
             return Dialled::Number(good);
         }
     }

@@ -21,13 +21,17 @@ key_text key.Code = codes "code"
 key_text key.Trunk = codes "trunk"
 key_text key.Delete = codes "delete"
 key_text key.Prefix = codes "prefix"
+key_text key.Number = codes "number"
+key_text key.Begins = codes "begins"
+key_text key.Digits = codes "digits"
 
 -- the keys that rules name in a section
 abbrev pub keys_of : Section → List Key
-keys_of section.Top = key.Plan ∷ key.Limits ∷ key.Route ∷ []
+keys_of section.Top = key.Plan ∷ key.Limits ∷ key.Number ∷ key.Route ∷ []
 keys_of section.Limits =
     key.PulseMin ∷ key.PulseMax ∷ key.MakeMin ∷ key.Pause ∷ key.Release ∷ key.Timeout ∷ []
 keys_of section.Route = key.Code ∷ key.Trunk ∷ key.Delete ∷ key.Prefix ∷ []
+keys_of section.Number = key.Begins ∷ key.Digits ∷ []
 keys_of section.Other = []
 
 -- the key that is written so

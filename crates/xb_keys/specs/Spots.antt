@@ -30,12 +30,14 @@ abbrev pub below_top : List ℕ → Section
 below_top part =
     if bytes_eq part (codes "limits") then section.Limits
     else if bytes_eq part (codes "route") then section.Route
+    else if bytes_eq part (codes "number") then section.Number
     else section.Other
 
 abbrev pub below : Section → List ℕ → Section
 below section.Top part = below_top part
 below section.Limits part = section.Other
 below section.Route part = section.Other
+below section.Number part = section.Other
 below section.Other part = section.Other
 
 -- a part of a key: one that rules name, or another with the one that may have been meant
@@ -67,11 +69,12 @@ within here (part ∷ parts) = within (below here part) parts
 abbrev pub parts_of : DottedKey → List (List ℕ)
 parts_of k = k.0 ++ k.1 ∷ []
 
--- the section that a heading begins: [limits] and [[route]] are those that rules name
+-- the section that a heading begins: [limits], [[route]] and [[number]] are those that rules name
 abbrev pub section_named : Bool → List (List ℕ) → List ℕ → Section
 section_named doubled path last =
     if not (length path == 0) then section.Other
-    else if doubled then (if bytes_eq last (codes "route") then section.Route else section.Other)
+    else if doubled then (if bytes_eq last (codes "route") then section.Route
+    else if bytes_eq last (codes "number") then section.Number else section.Other)
     else if bytes_eq last (codes "limits") then section.Limits else section.Other
 
 -- a heading from its first bracket, as the section that it begins, and what follows it
@@ -191,11 +194,12 @@ abbrev pub scalar_read : ℕ → List ℕ → Walk → Option (List ℕ) → Wal
 scalar_read total text walk None = broken total text walk
 scalar_read total text walk (Some rest) = (wanting want.After walk, rest)
 
--- an inline table of a route stands for its heading
+-- an inline table of a route, or of a number, stands for its heading
 abbrev pub item_spots : ℕ → Section → List Spot
 item_spots at section.Top = []
 item_spots at section.Limits = []
 item_spots at section.Route = spot_at at section.Route mark.Heading ∷ []
+item_spots at section.Number = spot_at at section.Number mark.Heading ∷ []
 item_spots at section.Other = []
 
 abbrev pub table_opened : ℕ → Section → Walk → Walk

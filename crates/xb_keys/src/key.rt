@@ -22,9 +22,12 @@ pub enum Key {
     Trunk,
     Delete,
     Prefix,
+    Number,
+    Begins,
+    Digits,
 }
 
-const TOP_KEYS: &[Key] = &[Key::Plan, Key::Limits, Key::Route];
+const TOP_KEYS: &[Key] = &[Key::Plan, Key::Limits, Key::Number, Key::Route];
 
 const LIMIT_KEYS: &[Key] = &[
     Key::PulseMin,
@@ -36,6 +39,8 @@ const LIMIT_KEYS: &[Key] = &[
 ];
 
 const ROUTE_KEYS: &[Key] = &[Key::Code, Key::Trunk, Key::Delete, Key::Prefix];
+
+const NUMBER_KEYS: &[Key] = &[Key::Begins, Key::Digits];
 
 impl Key {
     /// The key as it is written.
@@ -56,6 +61,9 @@ impl Key {
             Key::Trunk => "trunk",
             Key::Delete => "delete",
             Key::Prefix => "prefix",
+            Key::Number => "number",
+            Key::Begins => "begins",
+            Key::Digits => "digits",
         }
     }
 }
@@ -68,6 +76,7 @@ pub(crate) fn keys_of(section: Section) -> &'static [Key]
         Section::Top => TOP_KEYS,
         Section::Limits => LIMIT_KEYS,
         Section::Route => ROUTE_KEYS,
+        Section::Number => NUMBER_KEYS,
         Section::Other => &[],
     }
 }

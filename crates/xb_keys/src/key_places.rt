@@ -15,7 +15,7 @@ use toml_parser::{Key as DottedKey, ParseError, dotted_key};
 /// What stands at a place of a route table.
 #[derive(Clone, Copy)]
 pub enum Mark {
-    /// A heading, or an inline table of a route.
+    /// A heading, or an inline table of a route or of a number.
     Heading,
     /// A key that rules name in its section.
     Named(Key),
@@ -48,11 +48,13 @@ fn below(section: Section, part: &[u8]) -> Section
                 Section::Limits
             } else if part == b"route".as_slice() {
                 Section::Route
+            } else if part == b"number".as_slice() {
+                Section::Number
             } else {
                 Section::Other
             }
         }
-        Section::Limits | Section::Route | Section::Other => Section::Other,
+        Section::Limits | Section::Route | Section::Number | Section::Other => Section::Other,
     }
 }
 
@@ -161,6 +163,8 @@ fn section_named(doubled: bool, key: &DottedKey) -> Section
         Section::Other
     } else if doubled && last == b"route".as_slice() {
         Section::Route
+    } else if doubled && last == b"number".as_slice() {
+        Section::Number
     } else if !doubled && last == b"limits".as_slice() {
         Section::Limits
     } else {

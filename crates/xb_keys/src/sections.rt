@@ -14,6 +14,8 @@ pub enum Section {
     Limits,
     /// Below a `[[route]]`.
     Route,
+    /// Below a `[[number]]`.
+    Number,
     /// Below another heading.
     Other,
 }

@@ -211,7 +211,7 @@ fn open_table(walk: &mut Walk, at: usize, section: Section) -> Result<(), AllocE
     ensures { OnOk result (walk_of walk.new ≡ spec.table_opened at section (walk_of walk.old)) }
 {
     match section {
-        Section::Route => walk.spots.push(Spot {
+        Section::Route | Section::Number => walk.spots.push(Spot {
             at,
             section,
             mark: Mark::Heading,

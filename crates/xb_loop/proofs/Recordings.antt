@@ -25,7 +25,7 @@ use Rattle.xb_contact.proofs.Told.{tells_the_record}
 use Rattle.xb_feed.specs.declared.manner.AskedLine.{AskedLine}
 use Rattle.xb_loop.specs.declared.common.Common.{Common}
 use Rattle.xb_feed.specs.declared.manner.Manner.{Manner}
-use Rattle.xb_loop.specs.RecordingLaws.{HearsTheRecording, IsDisturbed, IsRecorded, KeepsTheTapeOfNights, KeepsTheTapeOfRecordings, KeepsTheTapeOfSeizures, KeepsTheTapeUnlessAsked, TellsTheShortRuns, least_of_record, rows_written, seized_runs}
+use Rattle.xb_loop.specs.RecordingLaws.{HearsTheRecording, IsDisturbed, IsRecorded, KeepsTheTapeOfNights, KeepsTheTapeOfRecordings, KeepsTheTapeOfSeizures, KeepsTheTapeUnlessAsked, TellsTheBounces, least_of_record, rows_written, seized_runs}
 use Rattle.xb_loop.specs.RowsOfHolds.{rows_of_holds, runs_of_holds, written_rows}
 use Rattle.xb_loop.specs.TapeLaws.{MakeOneTape}
 use Rattle.xb_loop.specs.Watching.{begun_bell, begun_line, release_of, wait_of}
@@ -33,7 +33,7 @@ use Rattle.xb_loop.specs.WireRecords.{WireRecord, bounces_of_record, rows_of_rec
 use Rattle.xb_loop.proofs.Followed.{gives_each_record}
 use Rattle.xb_loop.proofs.HeardRows.{joined-record, joined-written}
 use Rattle.xb_loop.proofs.KeptTapes.{one_record, record_of_own}
-use Rattle.xb_feed.proofs.TallyLemmas.{counts_the_short_runs}
+use Rattle.xb_feed.proofs.TallyLemmas.{counts_the_bounces}
 
 -- what is told of its contact
 abbrev told_of_record : Manner → Common → WireRecord → List Hold
@@ -129,8 +129,8 @@ keeps_the_tape_of_nights common lines wire asked said has bounce runs parts d ni
     tape_of_disturbed common lines wire asked said has bounce runs (night_left (wait_of asked.manner) [] parts) d
     (leaves_own_calls (wait_of asked.manner) asked.manner.seize_ms (release_of common) parts holds night are)
 
-pub tells_the_short_runs : TellsTheShortRuns
-tells_the_short_runs common lines wire asked said has is fits =
+pub tells_the_bounces : TellsTheBounces
+tells_the_bounces common lines wire asked said has is fits =
     (gives_each_record common lines wire asked said is.there is.alone).bounces
     ∙ ap (bounces_of_record asked.manner) is.is
-    ∙ ap (λ counted. Some counted) (counts_the_short_runs (least_of_record asked.manner has) has.first has.holds fits)
+    ∙ ap (λ counted. Some counted) (counts_the_bounces (least_of_record asked.manner has) has.first has.holds fits)

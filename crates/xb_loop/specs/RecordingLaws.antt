@@ -104,9 +104,9 @@ KeepsTheTapeOfNights =
     → MakeOneTape asked.number (rows_written common lines said)
     (rows_of_holds asked.number (night_left (wait_of asked.manner) [] parts))
 
--- exactly its short runs are told
-abbrev pub TellsTheShortRuns : Type 0
-TellsTheShortRuns =
+-- exactly its bounces are told
+abbrev pub TellsTheBounces : Type 0
+TellsTheBounces =
     (common : Common) (lines : List AskedLine) (wire : ℕ) (asked : AskedLine) (said : List Event) (has : WireRecord)
     → IsRecorded lines wire asked said has → total_of has.holds < 2 ^ 64
     → bounces_at wire (watch_after (begun_watch common lines) said).lines

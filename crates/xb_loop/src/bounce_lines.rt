@@ -35,7 +35,7 @@ fn write_micros(said: &mut String, scale: Scale, ticks: u64) -> Result<(), Alloc
     write_thousands(said, ms, left * 1_000 / per_ms)
 }
 
-/// Adds, as a line, how many short runs were taken away of a line, and how long the longest was.
+/// Adds, as a line, how many bounces a line had, and how long the longest was.
 fn say_bounces(
     said: &mut String,
     scale: Scale,

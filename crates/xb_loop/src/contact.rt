@@ -154,7 +154,7 @@ impl Follow<Common> for Contact {
         self.level = level;
     }
 
-    // The short runs that were taken away, and the edges that were lost, as far as they are asked for; and the calls that
+    // The bounces, and the edges that were lost, as far as they are asked for; and the calls that
     // are left out.
     fn note(&self, scale: Scale, line: LineNo, notes: &mut String) -> Result<(), AllocError> {
         note_bounces(self.common.said, notes, scale, line, self.tally.bounces())?;

@@ -1,7 +1,7 @@
 //! What the chain hears of a contact, as the contracts of functions that do nothing. The definitions are in `specs/`:
 //! `RowsOfHolds` (the rows that are written), and the statements in `HeardLaws` and `TapeLaws`.
 ghost use Rattle.xb_loop.specs.HeardLaws.{HearsEachCleanRun, HearsTheCleanRecord, HearsTheSettledRecord};
-ghost use Rattle.xb_loop.specs.RecordingLaws.{AsksForEachOnce, HearsTheRecording, KeepsTheTapeOfRecordings, KeepsTheTapeOfSeizures, KeepsTheTapeOfNights, KeepsTheTapeUnlessAsked, TellsTheLostEdges, TellsTheShortRuns};
+ghost use Rattle.xb_loop.specs.RecordingLaws.{AsksForEachOnce, HearsTheRecording, KeepsTheTapeOfRecordings, KeepsTheTapeOfSeizures, KeepsTheTapeOfNights, KeepsTheTapeUnlessAsked, TellsTheLostEdges, TellsTheBounces};
 ghost use Rattle.xb_loop.specs.WireRecords.{GivesEachRecord};
 ghost use Rattle.xb_loop.specs.TapeLaws.{HearsNothingOtherwise, KeepsTheTape, LeavesLongRunsTheirTape};
 ghost use Rattle.xb_loop.specs.Constants.{AreConstants};
@@ -43,7 +43,7 @@ pub fn each_line_has_the_record_of_its_wire()
 /// that is asked for, and each make on hook that is too short to seize. Where short bounces disturb a clean
 /// record, it makes the tape of the clean one with such breaks (`tape`). Where no ringing is asked for that
 /// is the clean one itself, if each make on hook lasts long enough (`long`) or each make seizes (`plain`). Of
-/// a night of ringing, answers and calls it is that of the line's own calls (`night`). Exactly the short runs
+/// a night of ringing, answers and calls it is that of the line's own calls (`night`). Exactly the bounces
 /// are told (`told`), and how many levels are said of a wire that it has already (`lost`): of gpiomon these are
 /// its lost edges (`lost_edges_are_said` of `xb_csv`). It is so of each line of a recording whose wires are of
 /// other lines, as those are that words ask for.
@@ -53,7 +53,7 @@ pub fn the_tape_of_a_recording_is_kept()
     ensures long { KeepsTheTapeOfSeizures }
     ensures plain { KeepsTheTapeUnlessAsked }
     ensures night { KeepsTheTapeOfNights }
-    ensures told { TellsTheShortRuns }
+    ensures told { TellsTheBounces }
     ensures lost { TellsTheLostEdges }
     ensures once { AsksForEachOnce }
 {}

@@ -4,7 +4,7 @@
 //! - `laws::the_tape_of_a_recording_is_kept`: of all rows that a recording gives, the chain makes of each
 //!   line the tape of the contact of its wire without its bounces. In it, by what is asked for of this line,
 //!   makes on hook that are too short to seize, and calls that answer ringing, are breaks. It is so whatever
-//!   the plan, the limits and the routes, and what is told of the bounces is their short runs. The laws
+//!   the plan, the limits and the routes, and what is told are its bounces. The laws
 //!   before it say that of a contact whose makes all seize, hold by hold.
 //!   `laws::each_line_has_the_record_of_its_wire` joins them with the rows (`WireRecords`).
 //! - `Contact`: what follows the contact of a line (`Follow` of `xb_feed`, which reads the recording): exactly the

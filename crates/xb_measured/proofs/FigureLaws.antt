@@ -1,10 +1,10 @@
 -- The measured times of a key, beside the samples between which it sounds.
-use Rattle.std.proofs.Common.{◌≡◌, ◌∙◌, ℕ, zero, suc, ◌+◌, ◌*◌, ◌-◌, ◌/◌, ◌<◌, ◌≤◌, ◌^◌, Bool, true, false, Option, Some, ap, arith, nat_le, min, refl, sym}
+use Rattle.std.proofs.Common.{◌≡◌, ℕ, zero, suc, ◌+◌, ◌*◌, ◌-◌, ◌<◌, ◌≤◌, ◌^◌, Bool, true, false, Option, Some, ap, arith, nat_le, refl}
 use Rattle.std.specs.Option.{unwrap_or}
 use Rattle.std.proofs.lemmas.Bool.{leb-false, leb-true}
 use Rattle.xb_measured.specs.declared.heard.Heard.{Heard}
 use Rattle.xb_measured.specs.FigureLaws.{HolesAreGaps, IsGapInTime, IsToldInTime, LiesIn, Sounds, TimesAreOfSounds}
-use Rattle.xb_measured.specs.Figures.{gap_ms, hole_ms, ms_of}
+use Rattle.xb_measured.specs.Figures.{gap_ms, ms_of}
 
 -- where the window before the first does not lie in a key, it begins too soon
 too-soon : (from to f : ℕ) (b : Bool) → nat_le from (20 * f + 20) ≡ b → 20 * f + 60 ≤ to

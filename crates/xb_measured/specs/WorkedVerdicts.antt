@@ -3,7 +3,6 @@ use Rattle.std.specs.Prelude.{ℕ, ◌≡◌, List, [], ◌∷◌, Bool, false, 
 use Rattle.xb_model.specs.declared.key.Key.TheVariants.{Digit, Kp}
 use Rattle.xb_model.specs.MfPairs.{pair}
 use Rattle.xb_measured.specs.declared.figures.Figures.{Figures}
-use Rattle.xb_measured.specs.declared.heard.Onsets.{Onsets}
 use Rattle.xb_measured.specs.declared.meaning.Meaning.TheVariants as meaning
 use Rattle.xb_measured.specs.Verdicts.{gap_fits_by, length_fits_by, level_fits, misses, tone_fits, verdict_text}
 

@@ -1,13 +1,20 @@
 // The rhythm of a keying.
 ghost use Rattle.std.specs.Prelude.{◌≡◌, ◌≤◌, ◌++◌, None, IfOk, OnOk, length};
-ghost use Rattle.xb_measured.specs.Rhythms.{count_up_to, gaps_after, lengths_of, listed_ms, ranked, rhythm_of};
+ghost use Rattle.xb_measured.specs.Rhythms.{are_steady, count_about, count_up_to, gaps_after, lengths_of, listed_ms, ranked, rhythm_of, usual_gap_ms};
 
 use crate::figures::{gap_ms, length_ms};
 use crate::keys::NamedKey;
+use crate::verdicts::is_about;
 use std::alloc::{AllocError, Global};
 
 /// Half a key and its gap more than is usual are no doubt, nor are so many ms besides.
 pub(crate) const LONG_GAP_MS: u64 = 8;
+
+/// The keys of a machine last alike, give or take so many ms, and so do its gaps.
+pub(crate) const ALIKE_MS: u64 = 10;
+
+/// A gap of a machine that is longer by so many ms is no doubt.
+pub(crate) const STEADY_GAP_MS: u64 = 30;
 
 /// A key that is longer by two thirds than is usual is no doubt, nor are so many ms besides.
 pub(crate) const LONG_KEY_MS: u64 = 6;
@@ -22,6 +29,8 @@ pub(crate) struct Rhythm {
     pub key_ms: u64,
     /// How long the time between two keys is, in ms.
     pub gap_ms: u64,
+    /// Whether a machine keys: most keys and gaps last as long as is usual.
+    pub is_steady: bool,
 }
 
 // How many times are no longer than this.
@@ -36,6 +45,29 @@ fn count_up_to(ms: u64, times: &[u64]) -> usize
         }
     }
     count
+}
+
+// How many times last as long as this one, give or take some ms.
+fn count_about(ms: u64, times: &[u64]) -> usize
+    ensures value { result ≡ count_about ms times.now }
+    ensures bound { result ≤ length times.now }
+{
+    let mut count = 0;
+    for time in times {
+        if is_about(ms, ALIKE_MS, *time) {
+            count += 1;
+        }
+    }
+    count
+}
+
+// Whether three in four keys, and half of the gaps, last as long as is usual.
+fn are_steady(key_ms: u64, gap_ms: u64, lengths: &[u64], gaps: &[u64]) -> bool
+    ensures { result ≡ are_steady key_ms gap_ms lengths.now gaps.now }
+{
+    let keys = count_about(key_ms, lengths) as u128;
+    let between = count_about(gap_ms, gaps) as u128;
+    3 * lengths.len() as u128 <= 4 * keys && gaps.len() as u128 <= 2 * between
 }
 
 // The time of this rank, by length.
@@ -88,28 +120,52 @@ fn gaps_of(alloc: Global, keys: &[NamedKey]) -> Result<Vec<u64>, AllocError>
     Ok(times)
 }
 
+// The usual gap: of a machine the one at the first quarter, of others the middle one.
+fn usual_gap_ms(is_steady: bool, quarter: u64, middle: u64) -> u64
+    ensures { result ≡ usual_gap_ms is_steady quarter middle }
+{
+    if is_steady { quarter } else { middle }
+}
+
 /// What is usual in a keying of these keys. `Err` says that memory ran out.
 pub(crate) fn rhythm_of(alloc: Global, keys: &[NamedKey]) -> Result<Rhythm, AllocError>
     ensures { IfOk result (λ rhythm. rhythm ≡ rhythm_of keys.now) }
 {
     let lengths = lengths_of(alloc, keys)?;
     let gaps = gaps_of(alloc, keys)?;
+    let key_ms = ranked((lengths.len() + 1) / 2, &lengths);
+    let quarter = ranked((gaps.len() + 3) / 4, &gaps);
+    let middle = ranked((gaps.len() + 1) / 2, &gaps);
+    let is_steady = are_steady(key_ms, quarter, &lengths, &gaps);
     Ok(Rhythm {
-        key_ms: ranked((lengths.len() + 1) / 2, &lengths),
-        gap_ms: ranked((gaps.len() + 3) / 4, &gaps),
+        key_ms,
+        gap_ms: usual_gap_ms(is_steady, quarter, middle),
+        is_steady,
     })
 }
 
 impl Rhythm {
     ghost use Rattle.std.specs.Prelude.{◌≡◌};
-    ghost use Rattle.xb_measured.specs.Rhythms.{least_key_ms, most_gap_ms, most_key_ms};
+    ghost use Rattle.xb_measured.specs.Rhythms.{least_key_ms, most_gap_ms, most_key_ms, most_longer_ms};
+
+    // By how much a gap may be longer than is usual.
+    fn most_longer_ms(self) -> u128
+        ensures { result ≡ most_longer_ms self }
+    {
+        let half = (u128::from(self.gap_ms) + u128::from(self.key_ms)) / 2;
+        let most = half + u128::from(LONG_GAP_MS);
+        if self.is_steady {
+            most.min(u128::from(STEADY_GAP_MS))
+        } else {
+            most
+        }
+    }
 
     /// The longest time between two keys that is no doubt.
     pub(crate) fn most_gap_ms(self) -> u128
         ensures { result ≡ most_gap_ms self }
     {
-        let gap = u128::from(self.gap_ms);
-        gap + (gap + u128::from(self.key_ms)) / 2 + u128::from(LONG_GAP_MS)
+        u128::from(self.gap_ms) + self.most_longer_ms()
     }
 
     /// The longest key that is no doubt.

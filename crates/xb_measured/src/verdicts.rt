@@ -73,8 +73,8 @@ impl Limit {
     }
 }
 
-// Whether a number is no further than so much from another.
-fn is_about(wanted: u64, off: u64, number: u64) -> bool
+/// Whether a number is no further than so much from another.
+pub(crate) fn is_about(wanted: u64, off: u64, number: u64) -> bool
     ensures { result ≡ is_about wanted off number }
 {
     number.saturating_sub(wanted) <= off && wanted.saturating_sub(number) <= off

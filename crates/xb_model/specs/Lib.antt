@@ -15,6 +15,9 @@ pub mod Numbers
 pub mod OnLines
 pub mod Page
 pub mod Plans
+pub mod LengthsStay
+pub mod NumberEntries
+pub mod LongestDecides
 pub mod Records
 pub mod Routing
 pub mod Rows

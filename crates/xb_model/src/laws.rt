@@ -1,6 +1,8 @@
 //! What the definitions give: each law is the contract of a function that does nothing.
 ghost use Rattle.xb_model.specs.Constants.{AreConstants};
 ghost use Rattle.xb_model.specs.CutRows.{RowsMayBeCut};
+ghost use Rattle.xb_model.specs.LengthsStay.{LengthsStay};
+ghost use Rattle.xb_model.specs.LongestDecides.{LongestDecides};
 ghost use Rattle.xb_model.specs.WorkedTables.{TwoOfFiveTable, TwoMakeADigit, MfTable, NumbersOfSeven, NumbersOfTen};
 ghost use Rattle.xb_model.specs.WorkedSignals.{SignalsOfRecords};
 ghost use Rattle.xb_model.specs.WorkedRoutes.{OrdersOfNumbers};
@@ -43,6 +45,19 @@ pub fn numbers_of_seven()
 /// The numbers that digits complete by plan Ten.
 pub fn numbers_of_ten()
     ensures { NumbersOfTen }
+{}
+
+/// A length that digits tell is told by all that begin with them, and no number has more than ten digits.
+#[tactic(auto, using(crate::proofs::Told::lengths_stay))]
+pub fn lengths_stay()
+    ensures { LengthsStay }
+{}
+
+/// The entry that decides is the longest with which a number begins, and by the list of lengths that entries make
+/// digits are a complete number just where they are as many as it says.
+#[tactic(auto, using(crate::proofs::LongestEntry::longest_decides))]
+pub fn longest_decides()
+    ensures { LongestDecides }
 {}
 
 /// The signals of some records, at each limit.

@@ -9,7 +9,9 @@
 //! - `Relays::check` holds exactly where two elements operate, and `Relays::digit` is then their digit.
 //!   `Relays::of_count` gives the pattern of 1 to 10 good pulses, 10 being 0, and else no element.
 //! - `mf` is the pair of each key, `key_of` the key of a pair, `Key::name` the name that the page prints.
-//!   `plan_len` is the length of a number by its first digits, `is_reached` whether there are as many.
+//!   `plan_len` is the length of a number by its first digits, `is_reached` whether there are as many: a length
+//!   once told is never another (`laws::lengths_stay`). `lengths_by` makes a plan of entries: of those that a
+//!   number begins with the longest decides (`laws::longest_decides`).
 //!   `Limits::standard` are lawful limits, `Mark::ends` says where an entry ends, `Reason::word` is the
 //!   page's word.
 //! - `field_number` and `line_of` are the number and the line that a field of a text writes, and `None` for
@@ -39,6 +41,7 @@ mod letters;
 mod limits;
 mod line;
 mod mark;
+mod number_entry;
 mod on;
 mod order;
 mod per_line;
@@ -66,11 +69,14 @@ pub use letters::digit_of_character;
 pub use limits::{GREATEST_LIMIT, Limits};
 pub use line::{LINES, LineNo};
 pub use mark::{KEYING_MARKS, Mark};
+pub use number_entry::{
+    BEGINS_DIGITS, NumberEntry, deciding_entry, entry_at, goes_past, lengths_by,
+};
 pub use on::{On, OnLine};
 pub use order::Order;
 pub use per_line::PerLine;
 pub use per_line_iter::EachLine;
-pub use plan::{Plan, is_area_code, is_reached, is_service_code, plan_len};
+pub use plan::{LENGTHS, Lengths, Plan, is_area_code, is_reached, is_service_code, plan_len};
 pub use reason::Reason;
 pub use relays::Relays;
 pub use row::{Contact, GREATEST_MS, Row};

@@ -4,4 +4,6 @@ pub mod Faults
 pub mod MadeDecks
 pub mod Options
 pub mod Program
+pub mod Serial
+pub mod Taped
 pub mod Usage

@@ -9,6 +9,8 @@
 //!   written (`AttendsBy` of `xb_command`). So words that are refused never give a page.
 //! - `attend`: the same of options alone and a deck that is open; refused options tell the usage and nothing else.
 //!   `attend_by` is `attend` past any gate.
+//! - `page_serial`, `operate_serial`: the same page, or the first fault, on one thread. `Asked` is a `Work` by the very
+//!   rules of `attend_call` (`by_bank`), so `attend` of `xb_command` by it is the program for a machine without threads.
 //! - `laws::made_decks_say_their_page`: a deck that is made of a table and rows, and is not too long, says
 //!   their page. `laws::usage_names_each_option`: the line of refused words does.
 //!
@@ -21,12 +23,15 @@ pub mod laws;
 mod office;
 mod options;
 mod program;
+mod serial;
+mod taping;
 mod words;
 
 pub use fault::OfficeFault;
 pub use office::{operate, operate_by};
 pub use options::{Asked, DEFAULT_RING, DEFAULT_SENDERS, Options};
 pub use program::{attend, attend_by, attend_call};
+pub use serial::{operate_serial, page_serial};
 pub use words::PROGRAM;
 pub use xb_command::{DONE, FAULT, WORDS_REFUSED};
 pub use xb_deck::MOST_DECK_BYTES;

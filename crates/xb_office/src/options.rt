@@ -23,7 +23,7 @@ pub struct Options {
 }
 
 /// What the words ask for.
-#[derive(Clone, Copy)]
+#[derive(Clone, Copy, Drop)]
 pub struct Asked<'a> {
     /// The file of the deck; without it, or with `-`, the input.
     pub deck: Option<&'a str>,

@@ -7,10 +7,10 @@ ghost use Rattle.xb_command.specs.Works.{IsWrong};
 ghost use Rattle.xb_flow.specs.declared.ends.TheConstants.{GREATEST_CAPACITY};
 ghost use Rattle.xb_office.specs.Options.{Asks, AskForNothing, Say, size_of, sizes_of};
 
-use crate::options::{Asked, DEFAULT_RING, DEFAULT_SENDERS, Options};
+use crate::options::{Asked, DEFAULT_RING, DEFAULT_SENDERS};
 use std::alloc::Global;
 use xb_branches::MOST_BRANCHES;
-use xb_command::{Answer, Call, FLAG, NOTHING, Program, Value, Word, Words, ask_words};
+use xb_command::{Answer, Call, FLAG, Program, Value, Word, Words, Work, ask_words};
 use xb_flow::GREATEST_CAPACITY;
 
 const SENDERS: Word<'static> = Word {
@@ -75,7 +75,7 @@ pub(crate) struct Said<'a> {
 }
 
 // What the words say.
-fn said_by<'a>(words: &Words<'a>) -> Said<'a>
+pub(crate) fn said_by<'a>(words: &Words<'a>) -> Said<'a>
     ensures { Say words.now result }
 {
     Said {
@@ -99,7 +99,7 @@ fn size_of(given: Option<u32>, default: u16, greatest: usize) -> Option<usize>
 
 // How many senders there are, and how many items a ring has room for; `None` where one is out of its
 // range.
-fn sizes_of(said: Said<'_>) -> Option<(usize, usize)>
+pub(crate) fn sizes_of(said: Said<'_>) -> Option<(usize, usize)>
     ensures value { result ≡ sizes_of said.entry }
     ensures senders { IfSome result (λ sizes. (1 ≤ sizes.0) × (sizes.0 ≤ MOST_BRANCHES)) }
     ensures ring { IfSome result (λ sizes. (1 ≤ sizes.1) × (sizes.1 ≤ GREATEST_CAPACITY)) }
@@ -115,16 +115,8 @@ pub(crate) fn ask<'a>(alloc: Global, call: &Call<'a>) -> Result<Asked<'a>, Answe
     ensures asks { IfOk result (Asks call.now) }
     ensures wrong { IfErr result (IsWrong (λ called misfit. AskForNothing called) call.now) }
 {
-    let words = match ask_words(alloc, call) {
-        Ok(words) => words,
-        Err(answer) => return Err(answer),
-    };
-    let said = said_by(&words);
-    match sizes_of(said) {
-        Some((senders, ring)) => Ok(Asked {
-            deck: said.deck,
-            options: Options { senders, ring },
-        }),
-        None => Err(Answer::Unfit(NOTHING)),
+    match ask_words(alloc, call) {
+        Ok(words) => Asked::ask(alloc, call, &words),
+        Err(answer) => Err(answer),
     }
 }

@@ -1,20 +1,17 @@
 -- The marks of tapes are as there are: each number in its range, each key with its own pair.
-use Rattle.std.proofs.Common.{◌≡◌, ◌∙◌, ◌<◌, ◌≤◌, ◌%◌, ◌==◌, ℕ, zero, suc, Bool, true, false, cond, List, [], ◌∷◌, ◌++◌, drop, length, map, Option, Some, None, refl, sym, subst, arith, append_assoc, append-nil, nat_le}
+use Rattle.std.proofs.Common.{◌≡◌, ◌∙◌, ◌<◌, ◌≤◌, ◌%◌, ℕ, zero, suc, Bool, true, false, cond, List, [], ◌∷◌, ◌++◌, drop, length, map, Option, Some, None, refl, sym, subst, arith, append_assoc, append-nil}
 use Rattle.std.specs.Prelude.{IfSome, is_none}
 use Rattle.std.specs.List.{AllByRecursion, flat_map, list_any}
-use Rattle.std.proofs.lemmas.Bool.{cond_both, eqb-true}
-use Rattle.std.proofs.lemmas.Bool.Decides.{nat_tests}
+use Rattle.std.proofs.lemmas.Bool.{cond_both}
 use Rattle.xb_model.specs.declared.dialled.Dialled.{Dialled}
 use Rattle.xb_model.specs.declared.dialled.Dialled.TheVariants as dialled
 use Rattle.xb_model.specs.declared.digit.TheConstants.{DIGITS}
 use Rattle.xb_model.specs.declared.key.Key.TheVariants.{Digit}
 use Rattle.xb_model.specs.declared.limits.Limits.{Limits}
 use Rattle.xb_model.specs.declared.plan.Plan.{Plan}
-use Rattle.xb_model.specs.declared.plan.Plan.TheVariants.{Seven, Ten}
 use Rattle.xb_model.specs.declared.signal.TheConstants.{MOST_PULSES}
 use Rattle.xb_model.specs.Keyings.{keying, marks_of, tone}
-use Rattle.xb_model.specs.Numbers.{before_mutilated, digit_of_count, digit_of_train, good_digits, has_length, is_complete, number_of, or_refused, outcome_of, reaches, shortest_complete, train_digits, without_number}
-use Rattle.xb_model.specs.Plans.{length_after_three}
+use Rattle.xb_model.specs.Numbers.{before_mutilated, digit_of_count, digit_of_train, good_digits, is_complete, number_of, or_refused, outcome_of, shortest_complete, train_digits, without_number}
 use Rattle.xb_model.specs.Records.{Attempt, Run, Train, attempts_of, is_timed, record_of, trains_of}
 use Rattle.xb_model.specs.Routing.{AreRoutes, CodedRoute, IsRoute, order_by, order_of, route_for}
 use Rattle.xb_model.specs.Rows.{LoopRow}
@@ -22,7 +19,8 @@ use Rattle.xb_model.specs.Signals.{breaks_in, is_bad_train}
 use Rattle.xb_model.specs.Tapes.{joined_tape}
 use Rattle.xb_model.proofs.Completed.{completed_number, shortest_complete-completed}
 use Rattle.xb_model.proofs.FoundRoutes.{found-is}
-use Rattle.xb_model.proofs.Pending.{IsPending, one, reaches-pending}
+use Rattle.xb_model.proofs.Pending.{IsPending, one, pending-few, reaches-pending}
+use Rattle.xb_model.proofs.Told.{complete-most}
 use Rattle.xb_page.specs.ReadBack.{AreMarks, IsMark}
 
 abbrev AreDigits : List ℕ → Type 0
@@ -56,43 +54,6 @@ before_mutilated-digits (Some d ∷ digits) are = (are.0, before_mutilated-digit
 
 good-digits : (limits : Limits) (attempt : List Run) → AreDigits (good_digits limits attempt)
 good-digits limits attempt = before_mutilated-digits _ (counted_all limits (trains_of limits attempt))
-
--- no number has more than ten digits
-length_after_three-most : (plan : Plan) (a b c : ℕ) → length_after_three plan a b c ≤ 10
-length_after_three-most Seven a b c = grind (arith, nat_tests)
-length_after_three-most Ten a b c = grind (arith, nat_tests)
-
-complete-most : (plan : Plan) (digits : List ℕ) → is_complete plan digits ≡ true → length digits ≤ 10
-complete-most plan [] e = omega arith
-complete-most plan (a ∷ []) e = omega arith
-complete-most plan (a ∷ b ∷ []) e = omega arith
-complete-most plan (a ∷ b ∷ c ∷ more) e = by (a == 0) e
-  where
-    n : ℕ
-    n = suc (suc (suc (length more)))
-
-    by : (zero_first : Bool) → has_length (cond zero_first (Some 1) (Some (length_after_three plan a b c))) n ≡ true → n ≤ 10
-    by true e = let same : 1 ≡ n = eqb-true 1 n e in omega arith
-    by false e =
-        let same : length_after_three plan a b c ≡ n = eqb-true _ n e in
-        omega (arith, length_after_three-most plan a b c)
-
-pending-most : (plan : Plan) (digits : List ℕ) → IsPending plan digits → length digits ≤ 10
-pending-most plan [] e = omega arith
-pending-most plan (a ∷ []) e = omega arith
-pending-most plan (a ∷ b ∷ []) e = omega arith
-pending-most plan (a ∷ b ∷ c ∷ more) e = by (a == 0) e
-  where
-    n : ℕ
-    n = suc (suc (suc (length more)))
-
-    by : (zero_first : Bool) → reaches (cond zero_first (Some 1) (Some (length_after_three plan a b c))) n ≡ false → n ≤ 10
-    by true e = grind (arith, nat_tests)
-    by false e =
-        let len : ℕ = length_after_three plan a b c in
-        let most : len ≤ 10 = length_after_three-most plan a b c in
-        let short : nat_le len n ≡ false = e in
-        grind (arith, nat_tests, most, short)
 
 -- what digits complete is a number of digits
 record IsNumber (number : List ℕ) : Type 0 where
@@ -146,7 +107,9 @@ outcome-is plan limits attempt = by (number_of plan limits attempt) refl
     by : (found : Option (List ℕ)) → shortest_complete plan good ≡ found
         → IsOutcome (or_refused found
         (without_number (list_any is_none (train_digits limits attempt)) (is_timed limits attempt) (length good)))
-    by None is = pending-most plan good (completed-none plan [] good refl (sym (shortest_complete-completed plan good) ∙ is))
+    by None is =
+        let few = pending-few plan good (completed-none plan [] good refl (sym (shortest_complete-completed plan good) ∙ is)) in
+        omega (arith, few)
     by (Some number) is =
         completed-number plan [] good number tt (good-digits limits attempt) (sym (shortest_complete-completed plan good) ∙ is)
 

@@ -205,13 +205,13 @@ impl<S: RowSource> Feed<S> {
         ensures served { HasFed self.old result self.new }
         ensures ended { has_fed self.new ≡ true }
     {
-        let mut blocked = Pause::new();
+        let mut pause = Pause::new();
         for _ in rt.forever() {
             gate.pass(Post::Feed, self.given);
             match self.turn() {
                 Ok(Turn::Ended) => return self.stopped_by(),
-                Ok(Turn::Moved) => blocked.room_came(&self.producer),
-                Ok(Turn::Idle | Turn::Blocked) => blocked.wait(rt),
+                Ok(Turn::Moved) => pause.over(),
+                Ok(Turn::Idle | Turn::Blocked) => pause.wait(rt),
                 Err(_) => {}
             }
         }

@@ -127,12 +127,12 @@ impl TapeStation {
         ensures lost { self.new.lost ≡ true }
         ensures ended { has_ended self.new ≡ true }
     {
-        let mut idle = Pause::new();
+        let mut pause = Pause::new();
         for _ in rt.forever() {
             match self.drop_next() {
                 Turn::Ended => return,
-                Turn::Moved => idle.items_came(&self.consumer),
-                Turn::Idle | Turn::Blocked => idle.wait(rt),
+                Turn::Moved => pause.over(),
+                Turn::Idle | Turn::Blocked => pause.wait(rt),
             }
         }
         unreachable!()
@@ -148,13 +148,13 @@ impl TapeStation {
         ensures kept { OnOk result (self.new.lost ≡ self.old.lost) }
         ensures lost { OnErr result (self.new.lost ≡ true) }
     {
-        let mut idle = Pause::new();
+        let mut pause = Pause::new();
         for _ in rt.forever() {
             gate.pass(Post::Tape, self.taken);
             match self.turn() {
                 Ok(Turn::Ended) => return Ok(()),
-                Ok(Turn::Moved) => idle.items_came(&self.consumer),
-                Ok(Turn::Idle | Turn::Blocked) => idle.wait(rt),
+                Ok(Turn::Moved) => pause.over(),
+                Ok(Turn::Idle | Turn::Blocked) => pause.wait(rt),
                 Err(error) => {
                     self.drop_rest(rt);
                     return Err(error);

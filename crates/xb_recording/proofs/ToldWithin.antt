@@ -1,10 +1,11 @@
 -- What is told by a beginning stays told.
-use Rattle.std.proofs.Common.{◌≡◌, ℕ, ◌≤◌, List, [], ◌∷◌, ◌++◌, Bool, true, false, cond, not, codes, nat_eq, nat_lt, length, refl, ap, sym, ◌∙◌, arith, append-nil, length-append, true≢false}
-use Rattle.std.proofs.lemmas.Bool.{and_parts, le-ltb, ltb-false}
+use Rattle.std.proofs.Common.{◌≡◌, ℕ, suc, ◌≤◌, List, [], ◌∷◌, ◌++◌, Bool, true, false, cond, not, codes, nat_eq, nat_lt, length, ne_eqb, refl, ap, sym, ◌∙◌, arith, append-nil, length-append, true≢false}
+use Rattle.std.proofs.lemmas.Bool.{le-ltb, ltb-false}
 use Rattle.std.proofs.lemmas.List.{take-append-le}
 use Rattle.std.specs.Prelude.{◌==◌, ◌&&◌, ◌||◌}
 use Rattle.std.specs.Cmp.Lexicographic.{pointwise}
 use Rattle.std.specs.List.{starts_with}
+use Rattle.xb_contact.specs.declared.event.Refusal.{Refusal}
 use Rattle.xb_contact.specs.declared.event.Refusal.TheVariants as refusals
 use Rattle.xb_recording.specs.Beginnings.{all_passed_over, is_archive, is_passed_over, tells_nothing_yet, why_untold}
 use Rattle.xb_recording.specs.Says.{lines_in, plain_line, plain_lines, text_lines}
@@ -53,30 +54,40 @@ begins_same a b c d text later true end four =
 begins_same a b c d text later false end four =
     ap (pointwise nat_eq (a ∷ b ∷ c ∷ d ∷ [])) (take-append-le 4 text later (four refl))
 
+-- a text that has four bytes, or ends, is empty where it is with what follows
+blank-same :
+    (text later : List ℕ) (is_end : Bool) → (is_end ≡ true → later ≡ []) → (is_end ≡ false → 4 ≤ length text)
+    → (length (text ++ later) == 0) ≡ (length text == 0)
+blank-same text later true end four = ap (λ t. length t == 0) (ap (λ l. text ++ l) (end refl) ∙ append-nil text)
+blank-same [] later false end four = absurd (omega (arith, four refl))
+blank-same (byte ∷ text) later false end four =
+    ne_eqb (suc (length (text ++ later))) 0 (λ e. absurd (omega (arith, e)))
+    ∙ sym (ne_eqb (suc (length text)) 0 (λ e. absurd (omega (arith, e))))
+
 -- and why it tells no form
+abbrev why-by : Bool → Bool → Bool → Bool → Bool → Bool → Refusal
+why-by archive blank routes limits plan rows =
+    cond archive refusals.Archive
+    (cond blank refusals.Blank (cond (routes || (limits || (plan || rows))) refusals.Deck refusals.Form))
+
 pub why_same :
     (text later : List ℕ) (is_end : Bool) → (is_end ≡ true → later ≡ []) → (is_end ≡ false → 4 ≤ length text)
     → why_untold (text ++ later) ≡ why_untold text
 why_same text later is_end end four =
-    ap (λ archive. cond archive refusals.Archive refusals.Form) (begins_same 80 75 3 4 text later is_end end four)
-
--- what tells nothing yet is no file of several files
-pub why_form :
-    (text : List ℕ) → 4 ≤ length text → tells_nothing_yet text ≡ true → why_untold text ≡ refusals.Form
-why_form text four none = at (is_archive text) single
-  where
-    later : Bool
-    later = not (is_archive text) && all_passed_over (text_lines text)
-
-    plain : not (starts_with nat_eq text (codes "RIFF")) && later ≡ true
-    plain = ap (λ few. few || (not (starts_with nat_eq text (codes "RIFF")) && later)) (sym (le-ltb (length text) 4 four)) ∙ none
-
-    single : not (is_archive text) ≡ true
-    single = (and_parts (not (is_archive text)) (all_passed_over (text_lines text)) (and_parts (not (starts_with nat_eq text (codes "RIFF"))) later plain).1).0
-
-    at : (archive : Bool) → not archive ≡ true → cond archive refusals.Archive refusals.Form ≡ refusals.Form
-    at true e = cc
-    at false e = refl
+    let all : List ℕ = text ++ later in
+    let begins : List ℕ → List ℕ → Bool = λ t word. starts_with nat_eq t word in
+    ap (λ archive. why-by archive (length all == 0) (begins all (codes "[[ro")) (begins all (codes "[lim")) (begins all (codes "plan")) (begins all (codes "line")))
+    (begins_same 80 75 3 4 text later is_end end four)
+    ∙ ap (λ blank. why-by (is_archive text) blank (begins all (codes "[[ro")) (begins all (codes "[lim")) (begins all (codes "plan")) (begins all (codes "line")))
+    (blank-same text later is_end end four)
+    ∙ ap (λ routes. why-by (is_archive text) (length text == 0) routes (begins all (codes "[lim")) (begins all (codes "plan")) (begins all (codes "line")))
+    (begins_same 91 91 114 111 text later is_end end four)
+    ∙ ap (λ limits. why-by (is_archive text) (length text == 0) (begins text (codes "[[ro")) limits (begins all (codes "plan")) (begins all (codes "line")))
+    (begins_same 91 108 105 109 text later is_end end four)
+    ∙ ap (λ plan. why-by (is_archive text) (length text == 0) (begins text (codes "[[ro")) (begins text (codes "[lim")) plan (begins all (codes "line")))
+    (begins_same 112 108 97 110 text later is_end end four)
+    ∙ ap (λ rows. why-by (is_archive text) (length text == 0) (begins text (codes "[[ro")) (begins text (codes "[lim")) (begins text (codes "plan")) rows)
+    (begins_same 108 105 110 101 text later is_end end four)
 
 -- what tells something goes on to do so
 pub told_stays :

@@ -68,9 +68,18 @@ form_told text =
     if starts_with nat_eq text (codes "RIFF") then Some formats.Wav
     else (if is_archive text then None else told_by_lines (text_lines text))
 
+-- a deck, or a part of one, begins with a heading or the plan of its route table, or with the header of its rows
+abbrev pub begins_deck : List ℕ → Bool
+begins_deck text =
+    starts_with nat_eq text (codes "[[ro") || (starts_with nat_eq text (codes "[lim")
+    || (starts_with nat_eq text (codes "plan") || starts_with nat_eq text (codes "line")))
+
 -- why none is told
 abbrev pub why_untold : List ℕ → Refusal
-why_untold text = if is_archive text then refusals.Archive else refusals.Form
+why_untold text =
+    if is_archive text then refusals.Archive
+    else (if length text == 0 then refusals.Blank
+    else (if begins_deck text then refusals.Deck else refusals.Form))
 
 -- what a reader was told is so, if it was told
 abbrev pub IsTold : Told → Option Format → Type 0

@@ -35,3 +35,8 @@ pub record BeginningsAreTold : Type 0 where
   pub of_others : form_told (text_of (codes "#Digilent" ∷ [])) ≡ None
   pub archive : form_told (80 ∷ 75 ∷ 3 ∷ 4 ∷ codes "version") ≡ None
   pub why : why_untold (80 ∷ 75 ∷ 3 ∷ 4 ∷ codes "version") ≡ refusals.Archive
+  pub empty : why_untold [] ≡ refusals.Blank
+  pub of_a_deck : why_untold (text_of (codes "[[route]]" ∷ codes "code = \"0\"" ∷ [])) ≡ refusals.Deck
+  pub of_rows : why_untold (text_of (codes "line,state,ms" ∷ codes "7,M,500" ∷ [])) ≡ refusals.Deck
+  pub of_semicolons : why_untold (text_of (codes "0;1" ∷ codes "0,5;0" ∷ [])) ≡ refusals.Form
+  pub of_a_header : why_untold (text_of (codes "millis,level" ∷ codes "500,1" ∷ [])) ≡ refusals.Form

@@ -1,6 +1,6 @@
 // How the form of a recording is told by its beginning.
 ghost use Rattle.std.specs.Prelude.{◌≡◌, ◌≢◌, ◌++◌, [], ℕ, List, false, true};
-ghost use Rattle.xb_recording.specs.Beginnings.{IsTold, all_passed_over, form_told, format_of_line, is_archive, is_of_saleae, is_passed_over, is_remark_of_program, is_row, last_told, tells_nothing_yet, told_by_lines, why_untold};
+ghost use Rattle.xb_recording.specs.Beginnings.{IsTold, all_passed_over, begins_deck, form_told, format_of_line, is_archive, is_of_saleae, is_passed_over, is_remark_of_program, is_row, last_told, tells_nothing_yet, told_by_lines, why_untold};
 ghost use Rattle.xb_recording.specs.Says.{text_lines};
 
 use crate::format::{Format, without_mark};
@@ -130,12 +130,27 @@ fn is_archive(beginning: &[u8]) -> bool
     beginning.starts_with(b"PK\x03\x04")
 }
 
-/// Why the beginning of a recording tells no form: it is a file of several files, `Archive`, or else `Form`.
+// Whether a deck, or a part of one, begins so.
+fn begins_deck(beginning: &[u8]) -> bool
+    ensures { result ≡ begins_deck beginning.now }
+{
+    beginning.starts_with(b"[[ro")
+        || beginning.starts_with(b"[lim")
+        || beginning.starts_with(b"plan")
+        || beginning.starts_with(b"line")
+}
+
+/// Why the beginning of a recording tells no form: it is a file of several files, `Archive`, or it is empty, `Blank`, or
+/// a deck, `Deck`, or else `Form`. Its first four bytes tell it.
 pub fn why_untold(beginning: &[u8]) -> Refusal
     ensures { result ≡ why_untold beginning.now }
 {
     if is_archive(beginning) {
         Refusal::Archive
+    } else if beginning.is_empty() {
+        Refusal::Blank
+    } else if begins_deck(beginning) {
+        Refusal::Deck
     } else {
         Refusal::Form
     }

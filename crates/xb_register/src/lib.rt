@@ -1,4 +1,4 @@
-//! The register stage: the signals of each line in, dialled numbers and refusals out, for both plans.
+//! The register stage: the signals of each line in, dialled numbers and refusals out, for every plan.
 //!
 //! - `Register::new`: for the signals of a record, the outcome of each attempt, one each, in order.
 //!   Whatever the signals are, at most one outcome for each seizure, and none before the first.

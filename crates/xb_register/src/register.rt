@@ -37,9 +37,9 @@ impl Model for Register {
 }
 
 // Takes a pattern into the digits of an attempt.
-fn store(plan: Plan, mut digits: StoredDigits, pattern: Relays) -> Step
+fn store(plan: &Plan, mut digits: StoredDigits, pattern: Relays) -> Step
     requires { length digits < NUMBER_DIGITS }
-    ensures value { result ≡ store plan digits (digit_of_pattern pattern) }
+    ensures value { result ≡ store plan.now digits (digit_of_pattern pattern) }
     ensures room { HasRoom result.phase }
 {
     if !pattern.check() {
@@ -54,9 +54,9 @@ fn store(plan: Plan, mut digits: StoredDigits, pattern: Relays) -> Step
 }
 
 // Takes a signal in an attempt.
-fn listen(plan: Plan, digits: StoredDigits, signal: Signal) -> Step
+fn listen(plan: &Plan, digits: StoredDigits, signal: Signal) -> Step
     requires { length digits < NUMBER_DIGITS }
-    ensures value { result ≡ listen plan digits signal }
+    ensures value { result ≡ listen plan.now digits signal }
     ensures room { HasRoom result.phase }
 {
     match signal {
@@ -68,9 +68,9 @@ fn listen(plan: Plan, digits: StoredDigits, signal: Signal) -> Step
 }
 
 // Takes a signal in any phase.
-fn advance(plan: Plan, phase: Phase, signal: Signal) -> Step
+fn advance(plan: &Plan, phase: Phase, signal: Signal) -> Step
     requires { HasRoom phase }
-    ensures value { result ≡ advance plan phase signal }
+    ensures value { result ≡ advance plan.now phase signal }
     ensures room { HasRoom result.phase }
 {
     match (phase, signal) {
@@ -103,7 +103,7 @@ impl Register {
         ensures state { state.new ≡ phase_after self.now state.old signal }
         ensures outcome { option_to_list result ≡ outcomes_by self.now state.old signal }
     {
-        let Step { outcome, phase } = advance(self.plan, state.take(), signal);
+        let Step { outcome, phase } = advance(&self.plan, state.take(), signal);
         state.put(phase);
         outcome
     }
@@ -127,7 +127,7 @@ impl LineStage for Register {
 
     fn step(&self, state: &mut RegisterState, item: On<Signal>, out: &mut Vec<On<Dialled>>) {
         let On { line, what } = item;
-        let Step { outcome, phase } = advance(self.plan, state.take(), what);
+        let Step { outcome, phase } = advance(&self.plan, state.take(), what);
         state.put(phase);
         if let Some(what) = outcome {
             send(line, out, what);

@@ -3,17 +3,11 @@ use Rattle.std.proofs.Common.{◌≡◌, ◌⊎◌, inl, inr, ℕ, suc, ◌+◌,
 use Rattle.std.specs.Prelude.{option_map, ◌==◌, if◌then◌else◌, unwrap_or}
 use Rattle.std.specs.List.{find}
 use Rattle.xb_model.specs.declared.plan.Plan.{Plan}
-use Rattle.xb_model.specs.declared.plan.Plan.TheVariants.{Seven, Ten}
-use Rattle.xb_model.specs.Plans.{is_area_code, is_service_code, length_after, length_after_three, length_of_others, plan_len}
+use Rattle.xb_model.specs.Plans.{plan_len}
 use Rattle.xb_model.specs.Numbers.{fronts, has_length, is_complete, shortest_complete}
 use Rattle.std.proofs.lemmas.List.{length-append, length-take-le, take-append-drop}
-use Rattle.xb_calls.proofs.CompleteNumbers.{complete_is_shortest, find-map, plan_len-front}
-
-some_is : {A : Type 0} {x y : A} → Some x ≡ Some y → x ≡ y
-some_is {A} {x} {y} e = ap (λ o. unwrap_or o x) e
-
-none_is : {A : Type 0} {x : A} → None ≡ Some x → ⊥
-none_is e = cc
+use Rattle.xb_model.proofs.Told.{fills, none_is, plan_len-front, untold-few}
+use Rattle.xb_calls.proofs.CompleteNumbers.{complete_is_shortest, find-map}
 
 -- a front that is found is found where more stands behind
 put-first : (d : ℕ) (found more : Option (List ℕ)) (front : List ℕ)
@@ -51,48 +45,6 @@ find-none test (d ∷ digits) fails =
     (find-map test (λ g. d ∷ g) (fronts digits)
     ∙ ap (option_map (λ g. d ∷ g)) (find-none (λ g. test (d ∷ g)) digits
     (λ front rest e. fails (d ∷ front) rest (ap (λ more. d ∷ more) e))))
-
--- a number has three digits at least, if it does not begin with 0, and ten at most
-record IsLength (n : ℕ) : Type 0 where
-  pub more : ℕ
-  pub is : n ≡ suc (suc (suc more))
-  pub few : n ≤ 10
-
-length_by : (plan : Plan) (service area : Bool) → IsLength (if service then 3 else length_of_others plan area)
-length_by plan true area = record { more = 0; is = refl; few = omega arith }
-length_by Seven false area = record { more = 4; is = refl; few = omega arith }
-length_by Ten false true = record { more = 7; is = refl; few = omega arith }
-length_by Ten false false = record { more = 4; is = refl; few = omega arith }
-
--- the front that has the length of the number tells that length, which is ten at most
-record Fills (plan : Plan) (digits : List ℕ) (n : ℕ) : Type 0 where
-  pub front : plan_len plan (take n digits) ≡ Some n
-  pub few : n ≤ 10
-
-fills-three : (plan : Plan) (a b c n : ℕ) (rest : List ℕ) → (a == 0) ≡ false → length_after_three plan a b c ≡ n
-    → Fills plan (a ∷ b ∷ c ∷ rest) n
-fills-three plan a b c n rest other is =
-    let len = length_by plan (is_service_code a b c) (is_area_code a b c) in
-    let three : n ≡ suc (suc (suc len.more)) = sym is ∙ len.is in
-    record {
-      front = rw (three, other) (ap Some (is ∙ three));
-      few = subst (λ m. m ≤ 10) is len.few;
-    }
-
-fills : (plan : Plan) (digits : List ℕ) (n : ℕ) → plan_len plan digits ≡ Some n → Fills plan digits n
-fills plan [] n is = absurd (none_is is)
-fills plan (a ∷ rest) n is = at (a == 0) refl
-  where
-    after : (more : List ℕ) → (a == 0) ≡ false → length_after plan a more ≡ Some n → Fills plan (a ∷ more) n
-    after [] e len = absurd (none_is len)
-    after (b ∷ []) e len = absurd (none_is len)
-    after (b ∷ c ∷ more) e len = fills-three plan a b c n more e (some_is len)
-
-    at : (operator : Bool) → (a == 0) ≡ operator → Fills plan (a ∷ rest) n
-    at true e =
-        let one : 1 ≡ n = some_is (rw e at is) in
-        subst (Fills plan (a ∷ rest)) one (record { front = rw e refl; few = omega arith })
-    at false e = after rest e (rw e at is)
 
 -- the number is the front of its length, which has ten digits at most
 pub record Completes (plan : Plan) (digits : List ℕ) (n : ℕ) : Type 0 where

@@ -2,6 +2,7 @@ pub mod FaultTexts
 pub mod NumberTexts
 pub mod TextSteps
 pub mod Answers
+pub mod Notes
 pub mod Lines
 pub mod Objects
 pub mod Pages

@@ -23,10 +23,11 @@ abbrev pub dialled_text : ℕ → List ℕ → List ℕ
 dialled_text trunk sent = codes " DIALLED " ++ four_digits trunk ++ codes " " ++ digits_text sent
 
 -- the line of digits, by what is done with them: the number, and what the page writes of its entry, or
--- what goes out by dial pulses; or that they are not complete, and how many they are
-abbrev pub answer_line : List ℕ → Answer → List ℕ
-answer_line digits Incomplete = digits_text digits ++ codes " INCOMPLETE " ++ decimal (length digits) ++ codes "\n"
-answer_line digits (Routed number order) =
-    digits_text number ++ entry_body (marks_of order) ++ ignored_text (left_over digits number) ++ codes "\n"
-answer_line digits (Dialled number trunk sent) =
-    digits_text number ++ dialled_text trunk sent ++ ignored_text (left_over digits number) ++ codes "\n"
+-- what goes out by dial pulses; or that they are not complete, and how many they are; and then how their length is known
+abbrev pub answer_line : List ℕ → Answer → List ℕ → List ℕ
+answer_line digits Incomplete known =
+    digits_text digits ++ codes " INCOMPLETE " ++ decimal (length digits) ++ known ++ codes "\n"
+answer_line digits (Routed number order) known =
+    digits_text number ++ entry_body (marks_of order) ++ ignored_text (left_over digits number) ++ known ++ codes "\n"
+answer_line digits (Dialled number trunk sent) known =
+    digits_text number ++ dialled_text trunk sent ++ ignored_text (left_over digits number) ++ known ++ codes "\n"

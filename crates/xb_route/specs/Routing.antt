@@ -3,6 +3,8 @@ use Rattle.std.specs.Prelude.{◌≡◌, ◌≢◌, ◌≤◌, ℕ, List, [], �
 use Rattle.std.specs.List.{flat_map}
 use Rattle.std.specs.Io.KnownBytes.{Appends, Keeps}
 use Rattle.xb_command.specs.Files.{Bytes}
+use Rattle.xb_model.specs.declared.number_entry.NumberEntry.{NumberEntry}
+use Rattle.xb_model.specs.NumberEntries.{IsMadeBy}
 use Rattle.xb_outgoing.specs.declared.fault.TableFault.{TableFault}
 use Rattle.xb_outgoing.specs.declared.fault.TableFault.TheVariants as file
 use Rattle.xb_outgoing.specs.Files.{HasTable, IsFaultOfTable}
@@ -15,18 +17,19 @@ use Rattle.xb_route.specs.declared.number_texts.TheConstants.{MOST_TEXT_BYTES}
 use Rattle.xb_route.specs.declared.words.Request.{Request}
 use Rattle.xb_route.specs.Answers.{answer_to}
 use Rattle.xb_route.specs.Lines.{answer_line}
+use Rattle.xb_route.specs.Notes.{length_text}
 use Rattle.xb_route.specs.NumberTexts.{Numbers, numbers_of_text, numbers_of_words}
 use Rattle.xb_route.specs.Objects.{object_line}
 use Rattle.xb_route.specs.Options.{words_of}
 
--- the line of a number
-abbrev pub line_of : Bool → Outgoing → List ℕ → List ℕ
-line_of json table digits = if json then object_line digits (answer_to table digits)
-    else answer_line digits (answer_to table digits)
+-- the line of a number, by a table and the entries of which its plan is made
+abbrev pub line_of : Bool → Outgoing → List NumberEntry → List ℕ → List ℕ
+line_of json table entries digits = if json then object_line digits (answer_to table digits)
+    else answer_line digits (answer_to table digits) (length_text table.table.plan entries digits)
 
 -- the lines of numbers
-abbrev pub lines_of : Bool → Outgoing → List (List ℕ) → List ℕ
-lines_of json table numbers = flat_map (line_of json table) numbers
+abbrev pub lines_of : Bool → Outgoing → List NumberEntry → List (List ℕ) → List ℕ
+lines_of json table entries numbers = flat_map (line_of json table entries) numbers
 
 -- the numbers of the words, or where there is none those of the input, if it is known, which is not too long
 abbrev pub AreNumbers : List (List ℕ) → Option (List ℕ) → Numbers → Type 0
@@ -65,7 +68,9 @@ pub record Routes (bytes : Bytes) (request : Request) (input : Option (List ℕ)
   pub numbers : List (List ℕ)
   pub is_read : HasTable bytes request.table.now table
   pub are_given : AreGiven (words_of request) input numbers
-  pub is_printed : printed ≡ lines_of request.json table numbers
+  pub entries : List NumberEntry
+  pub are_made : IsMadeBy table.table.plan entries
+  pub is_printed : printed ≡ lines_of request.json table entries numbers
 
 -- what is returned for a request, and what the writer got: the lines on Ok, their beginning where a write
 -- failed, and nothing on any other fault. A fault of the numbers is told only where the file has a table; memory may

@@ -26,7 +26,7 @@ abbrev pub worked_table : Outgoing
 worked_table = outgoing (table_by three_routes Seven standard_limits) (17 ∷ [])
 
 abbrev pub plain_line : List ℕ → List ℕ
-plain_line digits = answer_line digits (answer_to worked_table digits)
+plain_line digits = answer_line digits (answer_to worked_table digits) []
 
 abbrev pub json_line : List ℕ → List ℕ
 json_line digits = object_line digits (answer_to worked_table digits)
@@ -38,7 +38,7 @@ deleting_table = outgoing (table_by
     (coded_route (4 ∷ 1 ∷ 1 ∷ []) 30 3 [] ∷ coded_route (6 ∷ 1 ∷ 1 ∷ []) 31 3 [] ∷ []) Seven standard_limits) (30 ∷ [])
 
 abbrev pub deleted_line : List ℕ → List ℕ
-deleted_line digits = answer_line digits (answer_to deleting_table digits)
+deleted_line digits = answer_line digits (answer_to deleting_table digits) []
 
 -- what is printed of some numbers
 pub record LinesOfNumbers : Type 0 where

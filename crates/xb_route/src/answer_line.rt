@@ -22,12 +22,12 @@ fn write_ignored(alloc: Global, out: &mut String, left: &[Digit]) -> Result<(), 
 }
 
 // The line of digits that complete no number.
-fn incomplete_line(alloc: Global, digits: &[Digit]) -> Result<Vec<u8>, AllocError>
-    ensures { IfOk result (λ line. line.items ≡ answer_line digits.now Incomplete) }
+fn incomplete_line(alloc: Global, digits: &[Digit], known: &str) -> Result<Vec<u8>, AllocError>
+    ensures { IfOk result (λ line. line.items ≡ answer_line digits.now Incomplete known.now) }
 {
     let text = text_of_digits(alloc, digits)?;
     let count = digits.len();
-    Ok(format!(in alloc; "{text} INCOMPLETE {count}\n")?.into_bytes())
+    Ok(format!(in alloc; "{text} INCOMPLETE {count}{known}\n")?.into_bytes())
 }
 
 // Writes what goes out by dial pulses.
@@ -50,12 +50,15 @@ fn routed_line(
     digits: &[Digit],
     number: &NumberDigits,
     order: &Order,
+    known: &str,
 ) -> Result<Vec<u8>, AllocError>
-    ensures { IfOk result (λ line. line.items ≡ answer_line digits.now (Routed number.now order.now)) }
+    ensures { IfOk result (λ line.
+        line.items ≡ answer_line digits.now (Routed number.now order.now) known.now) }
 {
     let mut line = text_of_digits(alloc, number.digits())?;
     write_entry_body(&mut line, marks_of(order).as_slice())?;
     write_ignored(alloc, &mut line, left_over(digits, number))?;
+    line.push_str(known)?;
     line.push_str("\n")?;
     Ok(line.into_bytes())
 }
@@ -67,30 +70,33 @@ fn dialled_line(
     number: &NumberDigits,
     trunk: Trunk,
     sent: &[Digit],
+    known: &str,
 ) -> Result<Vec<u8>, AllocError>
     ensures { IfOk result (λ line.
-        line.items ≡ answer_line digits.now (Dialled number.now trunk sent.now)) }
+        line.items ≡ answer_line digits.now (Dialled number.now trunk sent.now) known.now) }
 {
     let mut line = text_of_digits(alloc, number.digits())?;
     write_dialled(alloc, &mut line, trunk, sent)?;
     write_ignored(alloc, &mut line, left_over(digits, number))?;
+    line.push_str(known)?;
     line.push_str("\n")?;
     Ok(line.into_bytes())
 }
 
-/// The line of digits, by what is done with them.
+/// The line of digits, by what is done with them, and how their length is known.
 pub(crate) fn answer_line(
     alloc: Global,
     digits: &[Digit],
     answer: &Answer,
+    known: &str,
 ) -> Result<Vec<u8>, AllocError>
-    ensures { IfOk result (λ line. line.items ≡ answer_line digits.now answer.now) }
+    ensures { IfOk result (λ line. line.items ≡ answer_line digits.now answer.now known.now) }
 {
     match answer {
-        Answer::Routed(number, order) => routed_line(alloc, digits, number, order),
+        Answer::Routed(number, order) => routed_line(alloc, digits, number, order, known),
         Answer::Dialled(number, trunk, sent) => {
-            dialled_line(alloc, digits, number, *trunk, sent.digits())
+            dialled_line(alloc, digits, number, *trunk, sent.digits(), known)
         }
-        Answer::Incomplete => incomplete_line(alloc, digits),
+        Answer::Incomplete => incomplete_line(alloc, digits, known),
     }
 }

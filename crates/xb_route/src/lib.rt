@@ -8,7 +8,8 @@
 //! - `number_of_text`: the digits that a text dials, letters as on a dial, or, unless memory ran out, its
 //!   fault with the first wrong byte and its place.
 //! - `route` and `attend`: with status 0 exactly the lines of the numbers were written, one for each number
-//!   and at least one, as text (`answer_line`) or as JSON (`object_line`). With status 1 one line was told,
+//!   and at least one, as text (`answer_line`) or as JSON (`object_line`). A text line also says how many digits the
+//!   number has where the table has entries `[[number]]`, and which of them decides. With status 1 one line was told,
 //!   and nothing was written but the beginning of the lines where a write failed. With status 2 the words are
 //!   refused: `clap` refuses them, or the table and the numbers would both be standard input.
 //! - `laws::pages_write_bodies`: the page's line of an entry is its line and number, followed by exactly what
@@ -22,6 +23,7 @@ mod answer_line;
 mod answer_object;
 mod fault;
 pub mod laws;
+mod length_text;
 mod number;
 mod number_texts;
 mod program;

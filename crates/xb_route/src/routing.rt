@@ -7,12 +7,13 @@ use crate::answer::answer_to;
 use crate::answer_line::answer_line;
 use crate::answer_object::object_line;
 use crate::fault::{NumberFault, RoutingFault};
+use crate::length_text::length_text;
 use crate::number_texts::{MOST_TEXT_BYTES, numbers_of_text, numbers_of_words};
 use crate::words::Request;
 use std::alloc::{AllocError, Global};
 use std::io::{Read, Write};
 use xb_command::Files;
-use xb_model::Digit;
+use xb_model::{Digit, NumberEntry};
 use xb_outgoing::{OutgoingTable, read_table};
 use xb_text::{ReadFault, read_whole, write_whole};
 
@@ -82,15 +83,18 @@ fn line_of(
     alloc: Global,
     json: bool,
     table: &OutgoingTable,
+    entries: &[NumberEntry],
     digits: &[Digit],
 ) -> Result<Vec<u8>, AllocError>
-    ensures { IfOk result (λ line. line.items ≡ line_of json table.now digits.now) }
+    ensures { IfOk result (λ line. line.items ≡ line_of json table.now entries.now digits.now) }
 {
     let answer = answer_to(table, digits);
     if json {
         object_line(alloc, digits, &answer)
     } else {
-        answer_line(alloc, digits, &answer)
+        let plan = table.routes().plan();
+        let known = length_text(alloc, &plan, entries, digits)?;
+        answer_line(alloc, digits, &answer, &known)
     }
 }
 
@@ -99,14 +103,15 @@ fn lines_of(
     alloc: Global,
     json: bool,
     table: &OutgoingTable,
+    entries: &[NumberEntry],
     numbers: &[Vec<Digit>],
 ) -> Result<Vec<u8>, AllocError>
     ensures { IfOk result (λ lines.
-        lines.items ≡ lines_of json table.now (digits_of_numbers numbers.now)) }
+        lines.items ≡ lines_of json table.now entries.now (digits_of_numbers numbers.now)) }
 {
     let mut lines = Vec::new(alloc);
     for number in numbers {
-        lines.extend_from_slice(&line_of(alloc, json, table, number)?)?;
+        lines.extend_from_slice(&line_of(alloc, json, table, entries, number)?)?;
     }
     Ok(lines)
 }
@@ -132,7 +137,8 @@ pub fn route<'a, F: Files, R: Read, W: Write>(
 {
     let table = read_table(alloc, files, request.table)?;
     let numbers = some_numbers(alloc, &request.numbers, input)?;
-    let lines = match lines_of(alloc, request.json, &table, &numbers) {
+    let entries = table.routes().numbers();
+    let lines = match lines_of(alloc, request.json, &table, entries, &numbers) {
         Ok(lines) => lines,
         Err(_) => return Err(RoutingFault::NoMemory),
     };

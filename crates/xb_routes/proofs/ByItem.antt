@@ -14,7 +14,8 @@ use Rattle.xb_routes.specs.declared.fault.RouteFault.{RouteFault}
 use Rattle.xb_routes.specs.declared.fault.RouteFault.TheVariants as fault
 use Rattle.xb_routes.specs.declared.table.TheConstants.{MOST_ROUTES}
 use Rattle.xb_routes.specs.Keys.{keys_of}
-use Rattle.xb_routes.specs.Text.{count, has_code, route_of, routes_from, routes_of_array}
+use Rattle.xb_routes.specs.Items.{count}
+use Rattle.xb_routes.specs.Text.{has_code, route_of, routes_from, routes_of_array}
 use Rattle.xb_routes.specs.ByItem.{AreRoutesOf, HaveOwnCodes, IsFaultAfter, IsFaultOfItems, codes_of, items_list}
 use Rattle.xb_routes.proofs.Items.{alone-few, item-refused, item-taken, item-twice, items-end}
 use Rattle.xb_routes.proofs.Places.{has-code, has-code-is}

@@ -10,7 +10,8 @@ use Rattle.xb_routes.specs.declared.fault.RouteFault.{RouteFault}
 use Rattle.xb_routes.specs.declared.fault.RouteFault.TheVariants as fault
 use Rattle.xb_routes.specs.Table.{Table}
 use Rattle.xb_routes.specs.LimitFaults.{of_limits, told}
-use Rattle.xb_routes.specs.PlanAndLimits.{limits_of, plan_of}
+use Rattle.xb_routes.specs.Numbering.{plan_of_tree}
+use Rattle.xb_routes.specs.PlanAndLimits.{limits_of}
 use Rattle.xb_routes.specs.Steps.{and_then}
 use Rattle.xb_routes.specs.Text.{route_items, routes_of_array, table_by, table_of_text, table_of_tree, tree_of}
 use Rattle.xb_routes.specs.ByKey.{AreLimitsAt, IsFaultOfLimits}
@@ -22,9 +23,6 @@ use Rattle.xb_routes.proofs.Steps.{both, both-option, either, either-option}
 -- what stands at the key `route` of a tree
 abbrev routes_at : Members → Result Items RouteFault
 routes_at tree = route_items (get_member (codes "route") tree)
-
-abbrev plan_at : Members → Option Plan
-plan_at tree = plan_of (get_member (codes "plan") tree)
 
 abbrev limits_at : Members → Result Limits RouteFault
 limits_at tree = told (limits_of (get_member (codes "limits") tree))
@@ -80,7 +78,7 @@ text-accepted text table = (to, from)
     to : table_of_text text ≡ Ok table → Writes text table
     to e =
         let t = both-option Members Table fault.NotToml (tree_of text) table_of_tree table e in
-        let p = both-option Plan Table fault.Plan (plan_at t.0) (with_plan t.0) table t.2 in
+        let p = both Plan Table (plan_of_tree t.0) (with_plan t.0) table t.2 in
         let l = both Limits Table (limits_at t.0) (with_limits p.0 t.0) table p.2 in
         let r = both (List CodedRoute) Table (routes_by p.0 t.0) (λ routes. Ok (table_by routes p.0 l.0)) table l.2 in
         let i = both Items (List CodedRoute) (routes_at t.0) (routes_of_array p.0) r.0 r.1 in
@@ -101,7 +99,7 @@ text-refused text f = (to, from)
   where
     from : IsFaultOfText text f → table_of_text text ≡ Err f
     from (inl none) = rw none.0 (ap (λ g. Err g) (sym none.1))
-    from (inr (tree, toml, inl none)) = rw (toml, none.0) (ap (λ g. Err g) (sym none.1))
+    from (inr (tree, toml, inl wrong)) = rw (toml, wrong) refl
     from (inr (tree, toml, inr (plan, is, inl limits))) =
         rw (toml, is, limits-wrong tree f limits) refl
     from (inr (tree, toml, inr (plan, is, inr (limits, has, inl array)))) =
@@ -133,10 +131,10 @@ text-refused text f = (to, from)
             inr (limits, are-limits tree limits has, of-routes plan tree limits why)
 
     of-tree : (tree : Members) → table_of_tree tree ≡ Err f → IsFaultOfTree tree f
-    of-tree tree e = by (either-option Plan Table fault.Plan (plan_at tree) (with_plan tree) f e)
+    of-tree tree e = by (either Plan Table (plan_of_tree tree) (with_plan tree) f e)
       where
-        by : ((plan_at tree ≡ None) × (f ≡ fault.Plan)) ⊎ ((plan : Plan) × (plan_at tree ≡ Some plan) × (with_plan tree plan ≡ Err f)) → IsFaultOfTree tree f
-        by (inl none) = inl none
+        by : (plan_of_tree tree ≡ Err f) ⊎ ((plan : Plan) × (plan_of_tree tree ≡ Ok plan) × (with_plan tree plan ≡ Err f)) → IsFaultOfTree tree f
+        by (inl wrong) = inl wrong
         by (inr (plan, is, why)) = inr (plan, is, after-plan plan tree why)
 
     to : table_of_text text ≡ Err f → IsFaultOfText text f

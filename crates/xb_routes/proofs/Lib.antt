@@ -11,3 +11,4 @@ pub mod ByKey
 pub mod ByItem
 pub mod ByText
 pub mod TableRoutes
+pub mod NumberEntries

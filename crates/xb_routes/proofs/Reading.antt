@@ -17,7 +17,8 @@ use Rattle.xb_routes.specs.declared.table.TheConstants.{MOST_ROUTES}
 use Rattle.xb_routes.specs.declared.fault.RouteFault.{RouteFault}
 use Rattle.xb_routes.specs.declared.fault.RouteFault.TheVariants as fault
 use Rattle.xb_routes.specs.Keys.{keys_of}
-use Rattle.xb_routes.specs.Text.{count, has_code, route_of, routes_from, routes_of_array, tree_of}
+use Rattle.xb_routes.specs.Items.{count}
+use Rattle.xb_routes.specs.Text.{has_code, route_of, routes_from, routes_of_array, tree_of}
 use Rattle.xb_routes.proofs.Items.{item-refused, item-taken, item-twice, items-end}
 
 module _ (plan : Plan) (values : List Value) (k i : ℕ) (earlier : List CodedRoute) where
@@ -44,7 +45,7 @@ module _ (plan : Plan) (values : List Value) (k i : ℕ) (earlier : List CodedRo
   pub routes-end : length values ≤ k → routes_from plan i earlier (items_view (drop k values)) ≡ Ok earlier
   routes-end h = ap (λ rest. routes_from plan i earlier (items_view rest)) (drop_all k values h) ∙ items-end plan i earlier
 
-count-view : (values : List Value) → count (items_view values) ≡ length values
+pub count-view : (values : List Value) → count (items_view values) ≡ length values
 count-view [] = refl
 count-view (value ∷ values) = ap (λ n. suc n) (count-view values)
 

@@ -12,9 +12,10 @@ use Rattle.xb_routes.specs.declared.table.TheConstants.{MOST_ROUTES}
 use Rattle.xb_routes.specs.Keys.{keys_of}
 use Rattle.xb_routes.specs.ByKey.{AreLimitsAt, IsFaultOfLimits}
 use Rattle.xb_routes.specs.LimitFaults.{of_limits}
-use Rattle.xb_routes.specs.PlanAndLimits.{plan_of}
+use Rattle.xb_routes.specs.Numbering.{plan_of_tree}
 use Rattle.xb_routes.specs.Table.{Table}
-use Rattle.xb_routes.specs.Text.{count, route_items, route_of, tree_of}
+use Rattle.xb_routes.specs.Items.{count}
+use Rattle.xb_routes.specs.Text.{route_items, route_of, tree_of}
 
 -- the items as a list
 abbrev pub items_list : Items → List Data
@@ -62,13 +63,13 @@ IsFaultOfItems plan items f =
     ((MOST_ROUTES < count items) × (f ≡ fault.TooMany))
     ⊎ ((count items ≤ MOST_ROUTES) × IsFirstFault plan items f)
 
--- a text writes a table: it is TOML, its plan and its limits are the table's, and its array `route`
+-- a text writes a table: it is TOML, how long its numbers are and its limits are the table's, and its array `route`
 -- has the table's routes
 pub record Writes (text : List ℕ) (table : Table) : Type 0 where
   pub tree : Members
   pub items : Items
   pub toml : tree_of text ≡ Some tree
-  pub plan : plan_of (get_member (codes "plan") tree) ≡ Some table.plan
+  pub plan : plan_of_tree tree ≡ Ok table.plan
   pub limits : AreLimitsAt (get_member (codes "limits") tree) table.limits
   pub array : route_items (get_member (codes "route") tree) ≡ Ok items
   pub routes : AreRoutesOf table.plan items table.routes
@@ -87,11 +88,11 @@ IsFaultAfterPlan plan tree f =
     ⊎ ((limits : Limits) × AreLimitsAt (get_member (codes "limits") tree) limits
     × IsFaultOfRoutes plan tree f)
 
--- why a tree is refused: by its plan, or else by what comes after
+-- why a tree is refused: by how long its numbers are, or else by what comes after
 abbrev pub IsFaultOfTree : Members → RouteFault → Type 0
 IsFaultOfTree tree f =
-    ((plan_of (get_member (codes "plan") tree) ≡ None) × (f ≡ fault.Plan))
-    ⊎ ((plan : Plan) × (plan_of (get_member (codes "plan") tree) ≡ Some plan) × IsFaultAfterPlan plan tree f)
+    (plan_of_tree tree ≡ Err f)
+    ⊎ ((plan : Plan) × (plan_of_tree tree ≡ Ok plan) × IsFaultAfterPlan plan tree f)
 
 -- why a text is refused: it is not TOML, or else by its tree
 abbrev pub IsFaultOfText : List ℕ → RouteFault → Type 0

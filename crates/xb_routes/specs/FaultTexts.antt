@@ -1,7 +1,18 @@
 -- The text of each fault.
 use Rattle.std.specs.Prelude.{ℕ, ◌++◌, List, codes, decimal}
+use Rattle.xb_routes.specs.declared.fault.NumberFault.{NumberFault}
+use Rattle.xb_routes.specs.declared.fault.NumberFault.TheVariants as rule
 use Rattle.xb_routes.specs.declared.fault.RouteFault.{RouteFault}
 use Rattle.xb_routes.specs.declared.fault.RouteFault.TheVariants as route
+
+-- what is wrong with an entry of a table
+abbrev pub number_words : NumberFault → List ℕ
+number_words rule.Shape = codes "has a wrong shape"
+number_words rule.Begins = codes "has a wrong begins"
+number_words rule.Digits = codes "has wrong digits"
+number_words rule.Short = codes "is shorter than its begins"
+number_words rule.Twice = codes "repeats a begins"
+number_words rule.Outgrown = codes "is shorter than a longer begins"
 
 -- of a route table
 abbrev pub route_text : RouteFault → List ℕ
@@ -17,3 +28,6 @@ route_text (route.Prefix number) = codes "route " ++ decimal number ++ codes " h
 route_text (route.NothingToKey number) = codes "route " ++ decimal number ++ codes " keys no digit"
 route_text (route.Twice number) = codes "route " ++ decimal number ++ codes " repeats a code"
 route_text route.NoMemory = codes "out of memory"
+route_text route.PlanAndNumber = codes "both plan and number"
+route_text route.TooManyNumbers = codes "more than 100 numbers"
+route_text (route.Number number rule) = codes "number " ++ decimal number ++ codes " " ++ number_words rule

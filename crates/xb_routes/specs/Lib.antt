@@ -4,6 +4,8 @@ pub mod Codes
 pub mod Keys
 pub mod Steps
 pub mod PlanAndLimits
+pub mod Items
+pub mod Numbering
 pub mod Text
 pub mod Coded
 pub mod Places

@@ -1,5 +1,5 @@
 -- The route table that a text writes, or why it is refused.
-use Rattle.std.specs.Prelude.{ℕ, suc, ◌+◌, ℤ, pos, negsuc, ◌&&◌, ◌==◌, nat_le, nat_lt, if◌then◌else◌, List, [], ◌∷◌, ◌++◌, length, codes, bytes_eq, Bool, Option, Some, None, Result, Ok, Err}
+use Rattle.std.specs.Prelude.{ℕ, ◌+◌, ℤ, pos, negsuc, ◌&&◌, ◌==◌, nat_le, nat_lt, if◌then◌else◌, List, [], ◌∷◌, ◌++◌, length, codes, bytes_eq, Bool, Option, Some, None, Result, Ok, Err}
 use Rattle.std.specs.List.{list_any}
 use Rattle.std.specs.Str.{is_utf8}
 use Rattle.toml.specs.Data.{Data, Items, no_items, item, Members, as_array, get_member}
@@ -15,7 +15,9 @@ use Rattle.xb_routes.specs.declared.table.TheConstants.{MOST_ROUTES}
 use Rattle.xb_routes.specs.Codes.{code_of, digits_within, number_length}
 use Rattle.xb_routes.specs.Keys.{FourKeys, keys_of}
 use Rattle.xb_routes.specs.LimitFaults.{told}
-use Rattle.xb_routes.specs.PlanAndLimits.{limits_of, plan_of}
+use Rattle.xb_routes.specs.Items.{count}
+use Rattle.xb_routes.specs.Numbering.{plan_of_tree}
+use Rattle.xb_routes.specs.PlanAndLimits.{limits_of}
 use Rattle.xb_routes.specs.Steps.{and_then, or_fault}
 use Rattle.xb_routes.specs.Table.{Table}
 
@@ -67,10 +69,6 @@ routes_from plan i earlier (item value rest) =
     and_then (if_new i earlier route) (λ new.
     routes_from plan (i + 1) (earlier ++ new ∷ []) rest))
 
-abbrev pub count : Items → ℕ
-count no_items = 0
-count (item value rest) = suc (count rest)
-
 -- the routes of an array, if they are not too many
 abbrev pub routes_of_array : Plan → Items → Result (List CodedRoute) RouteFault
 routes_of_array plan items = if nat_le (count items) MOST_ROUTES then routes_from plan 1 [] items
@@ -92,10 +90,10 @@ tree_of text = if is_utf8 text then parse_document text else None
 abbrev pub table_by : List CodedRoute → Plan → Limits → Table
 table_by routes plan limits = record { routes = routes; plan = plan; limits = limits }
 
--- the table of a tree, or the first fault: of its plan, its limits, its routes
+-- the table of a tree, or the first fault: of how long its numbers are, its limits, its routes
 abbrev pub table_of_tree : Members → Result Table RouteFault
 table_of_tree tree =
-    or_fault fault.Plan (plan_of (get_member (codes "plan") tree)) (λ plan.
+    and_then (plan_of_tree tree) (λ plan.
     and_then (told (limits_of (get_member (codes "limits") tree))) (λ limits.
     and_then (routes_of_key plan (get_member (codes "route") tree)) (λ routes.
     Ok (table_by routes plan limits))))

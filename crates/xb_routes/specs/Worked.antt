@@ -1,13 +1,22 @@
 -- What the definitions give at worked tables.
 use Rattle.std.specs.Prelude.{◌≡◌, ℕ, List, [], ◌∷◌, ◌++◌, codes, Some, None, Ok, Err}
-use Rattle.xb_model.specs.declared.plan.Plan.TheVariants.{Seven, Ten}
+use Rattle.xb_model.specs.declared.number_entry.NumberEntry.{NumberEntry}
+use Rattle.xb_model.specs.declared.number_entry.TheConstants.{BEGINS_DIGITS}
+use Rattle.xb_model.specs.declared.plan.Plan.{Plan}
+use Rattle.xb_model.specs.declared.plan.Plan.TheVariants.{Seven, Ten, By}
+use Rattle.xb_model.specs.declared.plan.TheConstants.{LENGTHS}
+use Rattle.xb_model.specs.NumberEntries.{lengths_by}
 use Rattle.xb_model.specs.Routing.{CodedRoute, coded_route, route_for}
 use Rattle.xb_model.specs.WorkedRows.{three_routes}
+use Rattle.xb_routes.specs.declared.fault.NumberFault.TheVariants as rule
+use Rattle.xb_routes.specs.declared.fault.RouteFault.{RouteFault}
 use Rattle.xb_routes.specs.declared.fault.RouteFault.TheVariants as fault
+use Rattle.xb_routes.specs.declared.numbering.TheConstants.{MOST_NUMBERS}
 use Rattle.xb_routes.specs.declared.table.TheConstants.{MOST_ROUTES}
 use Rattle.xb_routes.specs.Codes.{code_of, number_length}
 use Rattle.xb_model.specs.LawfulLimits.{standard_limits}
 use Rattle.xb_model.specs.WorkedRoutes.{short_route, long_route}
+use Rattle.xb_routes.specs.Numbering.{number_entry}
 use Rattle.xb_routes.specs.Table.{Table}
 use Rattle.xb_routes.specs.Text.{table_by, table_of_text}
 
@@ -111,6 +120,64 @@ pub record ReadsPlansAndLimits : Type 0 where
   pub makes_out_of_order : Refuses (codes "make_min = 181") 9
   pub pause_not_under_timeout : Refuses (codes "timeout = 180") 10
   pub first_of_two : Refuses (codes "pulse_max = 0\npulse_min = 0") 1
+
+-- entries of a club: four digits, and seven after an 8; what begins with 0 has one digit
+abbrev pub club_lines : List ℕ
+club_lines =
+    codes "[[number]]\nbegins = \"\"\ndigits = 4\n"
+    ++ codes "[[number]]\nbegins = \"8\"\ndigits = 7\n"
+    ++ codes "[[number]]\nbegins = \"0\"\ndigits = 1\n"
+
+abbrev pub club_entries : List NumberEntry
+club_entries = number_entry [] 4 ∷ number_entry (8 ∷ []) 7 ∷ number_entry (0 ∷ []) 1 ∷ []
+
+abbrev pub club : Plan
+club = By (lengths_by club_entries)
+
+-- two entries
+abbrev pub RefusesNumbers : List ℕ → List ℕ → RouteFault → Type 0
+RefusesNumbers first second f =
+    table_of_text (codes "[[number]]\n" ++ first ++ codes "\n[[number]]\n" ++ second) ≡ Err f
+
+-- entries of numbers, and why they are refused
+pub record ReadsNumbers : Type 0 where
+  pub most_numbers : MOST_NUMBERS ≡ 100
+  pub begins_digits : BEGINS_DIGITS ≡ 3
+  pub lengths : LENGTHS ≡ 1110
+  pub of_a_club : table_of_text club_lines ≡ Ok (table_by [] club standard_limits)
+  pub both : table_of_text (codes "plan = 7\n" ++ club_lines) ≡ Err fault.PlanAndNumber
+  pub plan_first : table_of_text (codes "plan = 8\n" ++ club_lines) ≡ Err fault.Plan
+  pub not_an_array : table_of_text (codes "number = 4\nlimits = 3") ≡ Err (fault.Number 0 rule.Shape)
+  pub no_digits : RefusesNumbers (codes "begins = \"4\"") (codes "begins = \"5\"") (fault.Number 1 rule.Shape)
+  pub a_letter : RefusesNumbers (codes "begins = \"4\"\ndigits = 4") (codes "begins = \"a\"\ndigits = 4")
+      (fault.Number 2 rule.Begins)
+  pub four_digits : RefusesNumbers (codes "begins = \"4111\"\ndigits = 0") (codes "begins = \"5\"\ndigits = 4")
+      (fault.Number 1 rule.Begins)
+  pub no_length : RefusesNumbers (codes "begins = \"4\"\ndigits = 0") (codes "begins = \"4\"\ndigits = 4")
+      (fault.Number 1 rule.Digits)
+  pub eleven : RefusesNumbers (codes "begins = \"4\"\ndigits = 4") (codes "begins = \"5\"\ndigits = 11")
+      (fault.Number 2 rule.Digits)
+  pub short : RefusesNumbers (codes "begins = \"411\"\ndigits = 3") (codes "begins = \"511\"\ndigits = 2")
+      (fault.Number 2 rule.Short)
+  pub twice : RefusesNumbers (codes "begins = \"4\"\ndigits = 4") (codes "begins = \"4\"\ndigits = 5")
+      (fault.Number 2 rule.Twice)
+  pub outgrown : RefusesNumbers (codes "begins = \"4\"\ndigits = 2") (codes "begins = \"411\"\ndigits = 3")
+      (fault.Number 1 rule.Outgrown)
+  pub alone_first : RefusesNumbers (codes "begins = \"\"\ndigits = 1") (codes "begins = \"41\"\ndigits = 0")
+      (fault.Number 2 rule.Digits)
+
+-- the codes that a club has, with the length of their numbers, and texts that are none
+pub record ReadsCodesOfLengths : Type 0 where
+  pub operator : code_of club (codes "0") ≡ Some (0 ∷ [])
+  pub one_digit : code_of club (codes "4") ≡ Some (4 ∷ [])
+  pub whole_number : code_of club (codes "4234") ≡ Some (4 ∷ 2 ∷ 3 ∷ 4 ∷ [])
+  pub longer_than_numbers : code_of club (codes "42345") ≡ None
+  pub two_for_one : code_of club (codes "00") ≡ None
+  pub seven : code_of club (codes "8234567") ≡ Some (8 ∷ 2 ∷ 3 ∷ 4 ∷ 5 ∷ 6 ∷ 7 ∷ [])
+  pub ten_digits : code_of (By (lengths_by [])) (codes "1234567890") ≡ None
+  pub no_digit : code_of club (codes "") ≡ None
+  pub told_length : number_length club (4 ∷ []) ≡ 4
+  pub untold_length : number_length (By (lengths_by (number_entry (4 ∷ 1 ∷ 1 ∷ []) 3 ∷ []))) (4 ∷ 1 ∷ []) ≡ 3
 
 -- the route of a number
 pub record LooksUp : Type 0 where

@@ -1,5 +1,6 @@
 // Faults of route tables.
 ghost use Rattle.std.specs.Prelude.{◌≡◌, IfSome, Some};
+ghost use Rattle.xb_routes.specs.FaultTexts.{number_words};
 ghost use Rattle.xb_routes.specs.LimitFaults.{limit_fault, limit_number};
 
 use std::fmt;
@@ -65,10 +66,44 @@ impl LimitFault {
     }
 }
 
+/// The rule that an entry `[[number]]` breaks, the first in this order.
+#[derive(Clone, Copy, Debug, PartialEq, Eq)]
+pub enum NumberFault {
+    /// The entry is not a table, lacks `begins` or `digits`, or has another kind of value at one of them.
+    Shape,
+    /// `begins` is not 0 to 3 ASCII digits.
+    Begins,
+    /// `digits` is not 1 to 10.
+    Digits,
+    /// The numbers have fewer digits than they begin with.
+    Short,
+    /// An earlier entry begins with the same digits.
+    Twice,
+    /// Another entry goes on from what this one begins with, and begins with more digits than its numbers have.
+    Outgrown,
+}
+
+impl NumberFault {
+    /// What is wrong with the entry, in words.
+    pub fn words(self) -> &'static str
+        ensures { result.now ≡ number_words self }
+    {
+        match self {
+            NumberFault::Shape => "has a wrong shape",
+            NumberFault::Begins => "has a wrong begins",
+            NumberFault::Digits => "has wrong digits",
+            NumberFault::Short => "is shorter than its begins",
+            NumberFault::Twice => "repeats a begins",
+            NumberFault::Outgrown => "is shorter than a longer begins",
+        }
+    }
+}
+
 /// Why a route table is refused. A number is that of the route, the first being 1.
 ///
-/// The first fault in this order is returned: that of the text, of the plan, of the limits, of the
-/// array of routes, of their count, and then those of each route in turn, from its shape on.
+/// The first fault in this order is returned: that of the text, of the plan, of `plan` beside `number`, of the array of
+/// numbers, of their count, those of each entry by itself in turn, those of each entry beside the others, that of the
+/// limits, of the array of routes, of their count, and then those of each route in turn, from its shape on.
 /// `NoMemory` comes where memory ran out, before any later check.
 #[derive(Clone, Copy, Debug, PartialEq, Eq, Error)]
 pub enum RouteFault {
@@ -85,10 +120,12 @@ pub enum RouteFault {
     Shape(u32),
     /// The code is not `0`, nor three digits NNX or N11, where N is 2 to 9 and X is 0 to 9. In plan
     /// Ten also three digits N0X and N1X are codes, and six digits, N0X or N1X but not N11, and then NNX.
+    /// By entries `[[number]]` it is not one digit to nine, or no number begins with it.
     Code(u32),
     /// The trunk group is not 0 to 9999.
     Trunk(u32),
-    /// `delete` is not 0 to the length of numbers that begin with the code.
+    /// `delete` is not 0 to the length of numbers that begin with the code; where the code does not tell it, to one more
+    /// than the code has.
     Delete(u32),
     /// `prefix` is not 0 to 8 ASCII digits.
     Prefix(u32),
@@ -98,6 +135,13 @@ pub enum RouteFault {
     Twice(u32),
     /// Memory ran out.
     NoMemory,
+    /// The table has both `plan` and `number`.
+    PlanAndNumber,
+    /// The array of numbers has more than 100 entries.
+    TooManyNumbers,
+    /// The entry `[[number]]` with this number, the first being 1, breaks this rule. With the number 0: `number` is
+    /// not an array.
+    Number(u32, NumberFault),
 }
 
 impl fmt::Display for RouteFault {
@@ -120,6 +164,12 @@ impl fmt::Display for RouteFault {
             RouteFault::NothingToKey(number) => write!(f, "route {number} keys no digit"),
             RouteFault::Twice(number) => write!(f, "route {number} repeats a code"),
             RouteFault::NoMemory => f.write_str("out of memory"),
+            RouteFault::PlanAndNumber => f.write_str("both plan and number"),
+            RouteFault::TooManyNumbers => f.write_str("more than 100 numbers"),
+            RouteFault::Number(number, rule) => {
+                let words = rule.words();
+                write!(f, "number {number} {words}")
+            }
         }
     }
 }

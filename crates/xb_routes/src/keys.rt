@@ -3,6 +3,7 @@ ghost use Rattle.std.specs.Prelude.{◌≡◌, option_map};
 ghost use Rattle.toml.specs.Data.{as_integer, as_str, get_member};
 ghost use Rattle.toml.specs.View.{table_view, view};
 ghost use Rattle.xb_routes.specs.Keys.{keys_in, keys_of, keys_of_table, optional, required};
+ghost use Rattle.xb_routes.specs.Numbering.{two_keys_in, two_keys_of, two_keys_of_table};
 
 use toml::{Table, Value};
 
@@ -18,6 +19,15 @@ pub struct RouteWords<'a> {
     pub delete: Option<i64>,
     /// The text that it puts before a number, if any.
     pub prefix: Option<&'a [u8]>,
+}
+
+/// What the two keys of an entry `[[number]]` hold.
+#[derive(Clone, Copy)]
+pub(crate) struct NumberWords<'a> {
+    /// The text of what its numbers begin with.
+    pub(crate) begins: &'a [u8],
+    /// How many digits they have.
+    pub(crate) digits: i64,
 }
 
 /// What a key holds.
@@ -79,4 +89,20 @@ pub(crate) fn keys_of(value: &Value) -> Option<RouteWords<'_>>
     ensures { option_map keys_in result ≡ keys_of (view value.now) }
 {
     keys_of_table(value.as_table()?)
+}
+
+fn number_words_of_table(keys: &Table) -> Option<NumberWords<'_>>
+    ensures { option_map two_keys_in result ≡ two_keys_of_table (table_view keys.now) }
+{
+    let begins = required_text(keys, "begins")?;
+    let digits = required_number(keys, "digits")?;
+    Some(NumberWords { begins, digits })
+}
+
+/// The two keys of an entry `[[number]]`; `None` where the entry is not a table, a key is missing, or one of them
+/// holds another kind of value.
+pub(crate) fn number_words_of(value: &Value) -> Option<NumberWords<'_>>
+    ensures { option_map two_keys_in result ≡ two_keys_of (view value.now) }
+{
+    number_words_of_table(value.as_table()?)
 }

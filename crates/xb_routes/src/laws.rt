@@ -3,6 +3,8 @@ ghost use Rattle.std.specs.Prelude.{◌≡◌, ◌<◌, ◌↔◌, ℕ, List, Op
 ghost use Rattle.toml.specs.Data.{Data, Items};
 ghost use Rattle.xb_model.specs.declared.limits.Limits.{Limits};
 ghost use Rattle.xb_model.specs.declared.plan.Plan.{Plan};
+ghost use Rattle.xb_model.specs.declared.number_entry.NumberEntry.{NumberEntry};
+ghost use Rattle.xb_model.specs.NumberEntries.{AreNumberEntries};
 ghost use Rattle.xb_model.specs.Routing.{CodedRoute};
 ghost use Rattle.xb_routes.specs.declared.fault.LimitFault.{LimitFault};
 ghost use Rattle.xb_routes.specs.declared.fault.RouteFault.{RouteFault};
@@ -10,10 +12,12 @@ ghost use Rattle.xb_routes.specs.declared.fault.RouteFault.TheVariants.{TooMany}
 ghost use Rattle.xb_routes.specs.declared.table.TheConstants.{MOST_ROUTES};
 ghost use Rattle.xb_routes.specs.ByItem.{AreRoutesOf, IsFaultOfItems, IsFaultOfText, Writes};
 ghost use Rattle.xb_routes.specs.ByKey.{AreLimitsAt, IsFaultOfLimits};
+ghost use Rattle.xb_routes.specs.Numbering.{numbers_of_array};
 ghost use Rattle.xb_routes.specs.PlanAndLimits.{limits_of};
 ghost use Rattle.xb_routes.specs.Table.{Table};
-ghost use Rattle.xb_routes.specs.Text.{count, routes_of_array, table_of_text};
-ghost use Rattle.xb_routes.specs.Worked.{LooksUp, ReadsCodes, ReadsCodesOfTen, ReadsPlansAndLimits, ReadsTables};
+ghost use Rattle.xb_routes.specs.Items.{count};
+ghost use Rattle.xb_routes.specs.Text.{routes_of_array, table_of_text};
+ghost use Rattle.xb_routes.specs.Worked.{LooksUp, ReadsCodes, ReadsCodesOfLengths, ReadsCodesOfTen, ReadsNumbers, ReadsPlansAndLimits, ReadsTables};
 
 /// The routes of an array, said of all its items at once. They are accepted exactly where there are
 /// at most `MOST_ROUTES` items, each item gives its route by itself, and no two routes have the same
@@ -47,11 +51,21 @@ pub fn tables_by_text()
         (table_of_text text ≡ Err fault) ↔ IsFaultOfText text fault }
 {}
 
+/// The entries of an array that is accepted are as those for which the longest decides how many digits a number has
+/// (`longest_decides` of `xb_model`): each begins with three digits at most, and none has fewer digits than another
+/// begins with that goes on from it.
+pub fn entries_are_lawful()
+    ensures { (items : Items) (entries : List NumberEntry) →
+        numbers_of_array items ≡ Ok entries → AreNumberEntries entries }
+{}
+
 /// What the definitions give at worked tables.
 pub fn worked_tables()
     ensures codes { ReadsCodes }
     ensures codes_of_ten { ReadsCodesOfTen }
     ensures tables { ReadsTables }
     ensures plans_and_limits { ReadsPlansAndLimits }
+    ensures numbers { ReadsNumbers }
+    ensures codes_of_lengths { ReadsCodesOfLengths }
     ensures routes { LooksUp }
 {}

@@ -1,8 +1,9 @@
 // The plan and the limits of a table.
-ghost use Rattle.std.specs.Prelude.{◌≡◌, ◌≤◌, ◌<◌, codes, pos, IfOk, IfSome, Ok};
+ghost use Rattle.std.specs.Prelude.{◌≡◌, ◌≤◌, ◌<◌, [], codes, pos, IfOk, IfSome, Ok};
 ghost use Rattle.toml.specs.Data.{get_member};
 ghost use Rattle.toml.specs.View.{table_view};
 ghost use Rattle.xb_model.specs.LawfulLimits.{IsLawful, IsLimit, AreLimits};
+ghost use Rattle.xb_model.specs.NumberEntries.{IsMadeBy};
 ghost use Rattle.xb_routes.specs.PlanAndLimits.{in_order, limit_at, limit_of_number, limits_by, limits_from};
 ghost use Rattle.xb_routes.specs.PlanAndLimits.{limits_of, limits_of_keys, plan_of};
 
@@ -13,7 +14,8 @@ use xb_model::{GREATEST_LIMIT, Limits, Plan};
 
 /// The plan at the key `plan`, 7 or 10: Seven where it is missing, and `None` where it is anything else.
 pub(crate) fn plan_of(tree: &Table) -> Option<Plan>
-    ensures { result ≡ plan_of (get_member (codes "plan") (table_view tree.now)) }
+    ensures value { result ≡ plan_of (get_member (codes "plan") (table_view tree.now)) }
+    ensures made { IfSome result (λ plan. IsMadeBy plan []) }
 {
     let Some(value) = value_at(tree, "plan") else {
         return Some(Plan::Seven);

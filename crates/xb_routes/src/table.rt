@@ -5,6 +5,7 @@ ghost use Rattle.std.specs.Result.{result_map_both};
 ghost use Rattle.toml.specs.Data.{get_member};
 ghost use Rattle.toml.specs.View.{items_view, table_view};
 ghost use Rattle.xb_model.specs.LawfulLimits.{IsLawful};
+ghost use Rattle.xb_model.specs.NumberEntries.{IsMadeBy};
 ghost use Rattle.xb_model.specs.Routing.{route_for};
 ghost use Rattle.xb_routes.specs.Coded.{coded, uncoded};
 ghost use Rattle.xb_routes.specs.Text.{route_items, routes_from, routes_of_array, routes_of_key};
@@ -13,13 +14,15 @@ ghost use Rattle.xb_routes.specs.declared.fault.RouteFault.TheVariants.{NoMemory
 
 use crate::fault::RouteFault;
 use crate::keys::value_at;
-use crate::limits::{limits_of, plan_of};
+use crate::limits::limits_of;
+use crate::numbering::{MOST_NUMBERS, Numbering, numbering_of};
 use crate::route::{Entry, Route, route_of};
 use crate::routes::Routes;
+use arrayvec::ArrayVec;
 use std::alloc::Global;
 use std::marker::Model;
 use toml::{Table, Value};
-use xb_model::{Digit, Limits, Plan};
+use xb_model::{Digit, Limits, NumberEntry, Plan};
 
 /// The most routes of a table.
 pub const MOST_ROUTES: usize = 1_000;
@@ -29,18 +32,21 @@ pub const MOST_ROUTES: usize = 1_000;
 pub struct RouteTable {
     routes: Routes,
     plan: Plan,
+    // the entries of which the plan is made, if it is a list of lengths
+    numbers: ArrayVec<NumberEntry, MOST_NUMBERS>,
     limits: Limits,
 }
 
 impl Model for RouteTable {
     ghost use Rattle.xb_model.specs.LawfulLimits.{IsLawful};
+    ghost use Rattle.xb_model.specs.NumberEntries.{IsMadeBy};
     ghost use Rattle.xb_routes.specs.Table.{Table};
 
     ghost Value = { Table };
 
     ghost view = { λ t. record { routes = t.routes; plan = t.plan; limits = t.limits } };
 
-    ghost invariant = { λ t. IsLawful t.limits };
+    ghost invariant = { λ t. IsLawful t.limits × IsMadeBy t.plan t.numbers.items };
 }
 
 // The routes of an array that are not too many.
@@ -123,7 +129,8 @@ fn read_tree(alloc: Global, plan: Plan, tree: &Table) -> Result<Routes, RouteFau
 impl RouteTable {
     /// The table that a text writes: TOML whose array of tables `route` has a route
     /// each, with the keys `code`, `trunk`, `delete` and `prefix`. The key `plan` is 7 or 10, and 7
-    /// where it is missing; the table `limits` may hold any of the six limits, in ms, and those that
+    /// where it is missing; in its place an array of tables `number` may have the keys `begins` and
+    /// `digits`. The table `limits` may hold any of the six limits, in ms, and those that
     /// are missing are the standard ones. All other keys are ignored.
     ///
     /// `Err` has the first refusal in the order of `RouteFault`; `Err(RouteFault::NoMemory)` comes
@@ -133,14 +140,13 @@ impl RouteTable {
         ensures refused { IfErr result (λ f. f ≢ NoMemory → table_of_text text.now ≡ Err f) }
     {
         let tree = tree_of(alloc, text)?;
-        let Some(plan) = plan_of(&tree) else {
-            return Err(RouteFault::Plan);
-        };
+        let Numbering { plan, entries } = numbering_of(&tree)?;
         let limits = limits_of(&tree)?;
         let routes = read_tree(alloc, plan, &tree)?;
         Ok(RouteTable {
             routes,
             plan,
+            numbers: entries,
             limits,
         })
     }
@@ -165,6 +171,13 @@ impl RouteTable {
         ensures { result ≡ self.now.plan }
     {
         self.plan
+    }
+
+    /// The entries `[[number]]` of which the plan is made, if it is a list of lengths.
+    pub fn numbers(&self) -> &[NumberEntry]
+        ensures { IsMadeBy self.now.plan result.now }
+    {
+        &self.numbers
     }
 
     /// The limits by which the pulses of numbers are judged.

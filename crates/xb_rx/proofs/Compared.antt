@@ -76,6 +76,7 @@ module _ (clock : Clock) (how : Input) (page a b : Option (List ℕ)) where
   not-paged keyed (Some bytes) fault.Read (inl none) = inl (none-paged none)
   not-paged keyed (Some bytes) fault.Read (inr heard) = inr (began-paged fault.Read bytes keyed heard)
   not-paged keyed (Some bytes) (fault.Cut n) heard = began-paged (fault.Cut n) bytes keyed heard
+  not-paged keyed (Some bytes) fault.More heard = began-paged fault.More bytes keyed heard
   not-paged keyed (Some bytes) (fault.Late ms) heard = began-paged (fault.Late ms) bytes keyed heard
   not-paged keyed (Some bytes) fault.NoMemory heard = began-paged fault.NoMemory bytes keyed heard
   not-paged keyed (Some bytes) fault.Write heard = began-paged fault.Write bytes keyed heard

@@ -98,6 +98,8 @@ delivered clock request (Some bytes) (Err fault.Read) outs (inr heard) =
 delivered clock request (Some bytes) (Err (fault.Wav f)) outs heard = heard
 delivered clock request (Some bytes) (Err (fault.Cut n)) outs heard =
     delivered-sound (timing_by request.since clock) request.written request.input bytes (Err (fault.Cut n)) outs heard
+delivered clock request (Some bytes) (Err fault.More) outs heard =
+    delivered-sound (timing_by request.since clock) request.written request.input bytes (Err fault.More) outs heard
 delivered clock request (Some bytes) (Err (fault.Late ms)) outs heard =
     delivered-sound (timing_by request.since clock) request.written request.input bytes (Err (fault.Late ms)) outs heard
 delivered clock request (Some bytes) (Err fault.NoMemory) outs heard =
@@ -116,6 +118,7 @@ module _ (how : Input) (since : Option Timestamp) (report : Reported) where
   heard-sound bytes sound (Err fault.Read) outs is heard = inr (sound, is, heard)
   heard-sound bytes sound (Err (fault.Wav f)) outs is heard = absurd heard.0
   heard-sound bytes sound (Err (fault.Cut n)) outs is heard = (sound, is, heard)
+  heard-sound bytes sound (Err fault.More) outs is heard = (sound, is, heard)
   heard-sound bytes sound (Err (fault.Late ms)) outs is heard = (sound, is, heard)
   heard-sound bytes sound (Err fault.NoMemory) outs is heard = (sound, is, heard)
   heard-sound bytes sound (Err fault.Write) outs is heard = (sound, is, heard)
@@ -130,13 +133,13 @@ module _ (how : Input) (since : Option Timestamp) (report : Reported) where
 
   pub listened : (old mid : Option (List ℕ)) (start : Start) (result : Result (Unit {0}) RxFault) (outs : Outputs)
       → Opens old (start_by how) (Ok start) mid
-      → Hears since (option_map (sound_of start.form start.samples start.counted) mid) report result outs
+      → Hears since (option_map (sound_of start.form start.samples start.counted start.spare) mid) report result outs
       → HearsBytes how since report old result outs
   listened None mid start result outs opens heard =
-      heard-some (option_map (sound_of start.form start.samples start.counted) mid) result outs heard
+      heard-some (option_map (sound_of start.form start.samples start.counted start.spare) mid) result outs heard
   listened (Some bytes) mid start result outs (rest, is, left) heard =
-      heard-sound bytes (sound_of start.form start.samples start.counted rest) result outs (ap sound_after is)
-      (subst (λ (known : Option (List ℕ)). Hears since (option_map (sound_of start.form start.samples start.counted) known)
+      heard-sound bytes (sound_of start.form start.samples start.counted start.spare rest) result outs (ap sound_after is)
+      (subst (λ (known : Option (List ℕ)). Hears since (option_map (sound_of start.form start.samples start.counted start.spare) known)
       report result outs) left heard)
 
   -- a sound that was not opened

@@ -1,7 +1,9 @@
 pub mod Channels
 pub mod Filters
+pub mod Tails
 pub mod Samples
 pub mod Walks
+pub mod FirstBytes
 pub mod Sounds
 pub mod SmallWeights
 pub mod Slides

@@ -22,7 +22,7 @@ abbrev told_with : List ℕ → List ℕ → Told
 told_with key entry = record { key = key; entry = entry }
 
 abbrev objects_in : List Told → List ℕ
-objects_in told = flat_map (λ (t : Told). t.key ++ t.entry) told
+objects_in told = flat_map (λ (t : Told). t.entry ++ t.key) told
 
 -- the entries that keys end
 abbrev ended_in : List Told → List ℕ
@@ -216,15 +216,15 @@ module _ (timing : Timing) where
           ∙ loose-entries (n + 1) (broken begun key) (parts_of (kept_after key ++ keys)))
 
   first-after : (objects : Objected) (key : Heard) (later : List Heard) → objects_rest timing objects (key ∷ later)
-      ≡ (key_line timing (figures_of objects.last key) ++ entry_ended timing objects.count (objects.begun ++ key ∷ []))
+      ≡ (entry_ended timing objects.count (objects.begun ++ key ∷ []) ++ key_line timing (figures_of objects.last key))
       ++ objects_after timing objects.count (objects.begun ++ key ∷ []) (Some key) later
   unfolding told_after
   first-after objects key later = refl
 
   module _ (old new : Objected) (key : Heard) (line text : List ℕ) (ended : Ended timing old new key line)
-      (is : text ≡ key_line timing (figures_of old.last key) ++ line) (a b : Option (List ℕ)) where
-    whole : text ≡ key_line timing (figures_of old.last key) ++ entry_ended timing old.count (old.begun ++ key ∷ [])
-    whole = is ∙ ap (λ t. key_line timing (figures_of old.last key) ++ t) ended.entry
+      (is : text ≡ line ++ key_line timing (figures_of old.last key)) (a b : Option (List ℕ)) where
+    whole : text ≡ entry_ended timing old.count (old.begun ++ key ∷ []) ++ key_line timing (figures_of old.last key)
+    whole = is ∙ ap (λ t. t ++ key_line timing (figures_of old.last key)) ended.entry
 
     text-first : (later : List Heard) → objects_rest timing old (key ∷ later)
         ≡ text ++ objects_after timing old.count (old.begun ++ key ∷ []) (Some key) later
@@ -232,7 +232,7 @@ module _ (timing : Timing) where
         first-after old key later
         ∙ ap (λ t. t ++ objects_after timing old.count (old.begun ++ key ∷ []) (Some key) later) (sym whole)
 
-    -- the object of a key was written, and of the entry that it ends
+    -- the object of the entry that a key ends was written, and of the key
     pub wrote-objects : new.last ≡ Some key → Appends a b text
         → Writes {F = ReportFault} (λ later. objects_rest timing old (key ∷ later)) (objects_rest timing new) (Ok tt) a b
     wrote-objects last wrote = (

@@ -1,13 +1,15 @@
 -- The next sample that bytes write, and the sound after it.
-use Rattle.std.proofs.Common.{◌≡◌, ◌∙◌, ℕ, suc, ◌+◌, ◌-◌, ◌*◌, ◌/◌, ◌%◌, ◌<◌, ◌≤◌, Bool, true, false, List, [], ◌∷◌, ◌++◌, length, drop, min, sym, ap, ap₂, arith, length-append, mul_comm, suc-mul, ℤ}
-use Rattle.std.specs.Prelude.{if◌then◌else◌}
+use Rattle.std.proofs.Common.{◌≡◌, ◌∙◌, ℕ, suc, ◌+◌, ◌-◌, ◌*◌, ◌/◌, ◌%◌, ◌<◌, ◌≤◌, Bool, true, false, List, [], ◌∷◌, ◌++◌, length, drop, min, not, sym, add-one, ap, ap₂, arith, length-append, mul_comm, suc-mul, ℤ}
+use Rattle.std.specs.Prelude.{◌&&◌, if◌then◌else◌}
 use Rattle.std.proofs.lemmas.Nat.{div-mul-add, div-add-mod', div_below, mod_below}
 use Rattle.std.proofs.Math.Seq.{drop-append_seam}
 use Rattle.xb_rx.specs.declared.coding.SampleForm.{SampleForm}
 use Rattle.xb_rx.specs.Samples.{IsForm, channel_of, frame_bytes, group_bytes, heard_samples, samples_of, sound_after, sound_with, whole_samples}
 use Rattle.xb_rx.specs.Streams.{HearsGroup}
+use Rattle.xb_rx.specs.Tails.{chunks_after}
 use Rattle.xb_rx.proofs.Channels.{channel-first, channel-split}
 use Rattle.xb_rx.proofs.Filters.{none-heard}
+use Rattle.xb_rx.proofs.Tails.{after-first, few-after}
 
 -- a group less
 whole-less : (n g : ℕ) → 0 < g → g ≤ n → n / g ≡ suc ((n - g) / g)
@@ -18,9 +20,9 @@ whole-less n g some enough =
     ap (λ (m : ℕ). m / g) (sym is) ∙ div-mul-add (suc ((n - g) / g)) g ((n - g) % g) below
 
 -- no sample is said to come
-pub none-said : (form : SampleForm) (before : List ℤ) (counted : Bool) (bytes : List ℕ)
-    → sound_after form before 0 counted bytes ≡ sound_with [] 0
-none-said form before counted bytes = by counted
+pub none-said : (form : SampleForm) (before : List ℤ) (counted : Bool) (spare : ℕ) (bytes : List ℕ)
+    → sound_after form before 0 counted spare bytes ≡ sound_with [] 0 (counted && not (chunks_after spare bytes))
+none-said form before counted spare bytes = by counted
   where
     none : min 0 (whole_samples form bytes) ≡ 0
     none = omega arith
@@ -31,17 +33,22 @@ none-said form before counted bytes = by counted
     list : samples_of form (min 0 (whole_samples form bytes)) before bytes ≡ []
     list = ap (λ (n : ℕ). samples_of form n before bytes) none ∙ none-heard form before bytes
 
-    by : (c : Bool) → sound_after form before 0 c bytes ≡ sound_with [] 0
-    by true = ap₂ sound_with list lacks
-    by false = ap (λ xs. sound_with xs 0) list
+    all : 0 * group_bytes form + spare ≡ spare
+    all = omega arith
+
+    by : (c : Bool) → sound_after form before 0 c spare bytes ≡ sound_with [] 0 (c && not (chunks_after spare bytes))
+    by true =
+        ap₂ (λ (xs : List ℤ) (n : ℕ). sound_with xs n (not (chunks_after (0 * group_bytes form + spare) bytes))) list lacks
+        ∙ ap (λ (n : ℕ). sound_with [] 0 (not (chunks_after n bytes))) all
+    by false = ap (λ (xs : List ℤ). sound_with xs 0 false) list
 
 module _ (form : SampleForm) (is_form : IsForm form) (some : 0 < group_bytes form) where
   -- a sample more
-  pub next-sound : (group left : List ℕ) (before after : List ℤ) (x : ℤ) (said : ℕ) (counted : Bool)
+  pub next-sound : (group left : List ℕ) (before after : List ℤ) (x : ℤ) (said : ℕ) (counted : Bool) (spare : ℕ)
       → length group ≡ group_bytes form → HearsGroup form group before x after
-      → sound_after form before (said + 1) counted (group ++ left)
-      ≡ (let next = sound_after form after said counted left in sound_with (x ∷ next.samples) next.lacking)
-  next-sound group left before after x said counted size hears = by counted
+      → sound_after form before (said + 1) counted spare (group ++ left)
+      ≡ (let next = sound_after form after said counted spare left in sound_with (x ∷ next.samples) next.lacking next.more)
+  next-sound group left before after x said counted spare size hears = by counted
     where
       rest : ℕ
       rest = whole_samples form left
@@ -82,15 +89,30 @@ module _ (form : SampleForm) (is_form : IsForm form) (some : 0 < group_bytes for
           ∙ ap (heard_samples form.frames (suc n) before) channel
           ∙ hears n (channel_of form (n * form.frames) left)
 
-      by : (c : Bool) → sound_after form before (said + 1) c (group ++ left)
-          ≡ sound_with (x ∷ (sound_after form after said c left).samples) (sound_after form after said c left).lacking
-      by true = ap₂ sound_with list lacks
-      by false = ap (λ xs. sound_with xs 0) list
+      bytes-more : (said + 1) * group_bytes form + spare ≡ length group + (said * group_bytes form + spare)
+      bytes-more =
+          let one-more : (said + 1) * group_bytes form ≡ said * group_bytes form + group_bytes form =
+          ap (λ (m : ℕ). m * group_bytes form) (add-one said) ∙ suc-mul said (group_bytes form) in
+          omega (arith, one-more, size)
+
+      follows : chunks_after ((said + 1) * group_bytes form + spare) (group ++ left)
+          ≡ chunks_after (said * group_bytes form + spare) left
+      follows = after-first group left (said * group_bytes form + spare) _ bytes-more
+
+      by : (c : Bool) → sound_after form before (said + 1) c spare (group ++ left)
+          ≡ sound_with (x ∷ (sound_after form after said c spare left).samples)
+          (sound_after form after said c spare left).lacking (sound_after form after said c spare left).more
+      by true =
+          ap₂ (λ (xs : List ℤ) (k : ℕ). sound_with xs k (not (chunks_after ((said + 1) * group_bytes form + spare) (group ++ left))))
+          list lacks
+          ∙ ap (λ (b : Bool). sound_with (x ∷ samples_of form n after left) (said - rest) (not b)) follows
+      by false = ap (λ (xs : List ℤ). sound_with xs 0 false) list
 
   -- too few bytes are left for one
-  pub too-few : (before : List ℤ) (said : ℕ) (counted : Bool) (bytes : List ℕ) → length bytes < group_bytes form
-      → sound_after form before said counted bytes ≡ sound_with [] (if counted then said else 0)
-  too-few before said counted bytes few = by counted
+  pub too-few : (before : List ℤ) (said : ℕ) (counted : Bool) (spare : ℕ) (bytes : List ℕ) → 0 < said
+      → length bytes < group_bytes form
+      → sound_after form before said counted spare bytes ≡ sound_with [] (if counted then said else 0) false
+  too-few before said counted spare bytes one few = by counted
     where
       whole : whole_samples form bytes ≡ 0
       whole = let b = div_below (length bytes) (group_bytes form) 1 some (omega (arith, few)) in omega (arith, b)
@@ -104,6 +126,15 @@ module _ (form : SampleForm) (is_form : IsForm form) (some : 0 < group_bytes for
       list : samples_of form (min said (whole_samples form bytes)) before bytes ≡ []
       list = ap (λ (n : ℕ). samples_of form n before bytes) none ∙ none-heard form before bytes
 
-      by : (c : Bool) → sound_after form before said c bytes ≡ sound_with [] (if c then said else 0)
-      by true = ap₂ sound_with list lacks
-      by false = ap (λ xs. sound_with xs 0) list
+      enough : length bytes ≤ said * group_bytes form + spare
+      enough =
+          let less : said ≡ suc (said - 1) = omega (arith, one) in
+          let all : said * group_bytes form ≡ (said - 1) * group_bytes form + group_bytes form =
+          ap (λ (m : ℕ). m * group_bytes form) less ∙ suc-mul (said - 1) (group_bytes form) in
+          omega (arith, all, few)
+
+      by : (c : Bool) → sound_after form before said c spare bytes ≡ sound_with [] (if c then said else 0) false
+      by true =
+          ap₂ (λ (xs : List ℤ) (n : ℕ). sound_with xs n (not (chunks_after (said * group_bytes form + spare) bytes))) list lacks
+          ∙ ap (λ (b : Bool). sound_with [] said (not b)) (few-after (said * group_bytes form + spare) bytes enough)
+      by false = ap (λ (xs : List ℤ). sound_with xs 0 false) list

@@ -106,7 +106,7 @@ report-fault since sound (report_fault.Late ms) late = late
 -- of a sound these samples were given, and this is left
 abbrev pub IsLeft : Sound → List ℤ → Option Sound → Type 0
 IsLeft sound samples None = ⊥
-IsLeft sound samples (Some left) = sound ≡ sound_with (samples ++ left.samples) left.lacking
+IsLeft sound samples (Some left) = sound ≡ sound_with (samples ++ left.samples) left.lacking left.more
 
 -- the keys that ended in these samples were written
 pub record IsSoFar (first page : Reported) (listener : Listener) (all left : Option Sound) (outs : Outputs) : Type 0 where
@@ -140,8 +140,8 @@ left-more samples x (Some sound) None left is gives = absurd is
 left-more samples x (Some sound) (Some here) None is gives = absurd gives
 left-more samples x (Some sound) (Some here) (Some left) is gives =
     is
-    ∙ ap (λ (s : Sound). sound_with (samples ++ s.samples) s.lacking) gives
-    ∙ ap (λ xs. sound_with xs left.lacking) (sym (append_assoc samples (x ∷ []) left.samples))
+    ∙ ap (λ (s : Sound). sound_with (samples ++ s.samples) s.lacking s.more) gives
+    ∙ ap (λ xs. sound_with xs left.lacking left.more) (sym (append_assoc samples (x ∷ []) left.samples))
 
 -- the beginning of what is told of keys is that of what is told of their sound
 told-begun : (first : Reported) (samples : List ℤ) (old new : Option (List ℕ))
@@ -241,6 +241,7 @@ module _ (since : Option Timestamp) (first page : Reported) (listener : Listener
       at stream_fault.Read gives = tt
       at (stream_fault.Cut n) gives =
           (ap (λ (s : Sound). s.lacking) so.is_left ∙ ap (λ (s : Sound). s.lacking) gives.0, gives.1)
+      at stream_fault.More gives = ap (λ (s : Sound). s.more) so.is_left ∙ ap (λ (s : Sound). s.more) gives
 
   -- the sound ends: what is told of one without a key
   quiet-is : (key : Option Heard) (sound here : Sound) (left : Option Sound) (text : List ℕ)
@@ -279,7 +280,10 @@ module _ (since : Option Timestamp) (first page : Reported) (listener : Listener
   so_far-end key (Some sound) None left next also last so gives finishes wrote told quiet = absurd so.is_left
   so_far-end key (Some sound) (Some here) left next also last so gives finishes wrote told quiet =
       let keys = all-keys key sound here left so gives finishes in (
-        ap (λ (s : Sound). s.lacking) so.is_left ∙ ap (λ (s : Sound). s.lacking) gives,
+        record {
+          lacks = ap (λ (s : Sound). s.lacking) so.is_left ∙ ap (λ (s : Sound). s.lacking) gives;
+          ends = ap (λ (s : Sound). s.more) so.is_left ∙ ap (λ (s : Sound). s.more) gives;
+        },
         (
           so.page_has.by wrote.0,
           record {

@@ -12,7 +12,7 @@ Walks (Some bytes) (Some left) says after = says bytes ≡ after left
 
 -- what was read up to a head
 abbrev pub ReadsTo : Option (List ℕ) → Option (List ℕ) → HeadSoFar → Type 0
-ReadsTo old mid head = Walks old mid format_of_file (λ rest. format_by (rest_of head rest))
+ReadsTo old mid head = Walks old mid format_of_file (λ rest. format_by None (rest_of head rest))
 
 -- too few bytes were left to fill a buffer
 pub few-bytes : (bytes left buffer : List ℕ) (n : ℕ) → bytes ≡ take n buffer ++ left → left ≡ [] → n < length buffer

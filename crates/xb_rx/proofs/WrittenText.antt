@@ -1,5 +1,5 @@
 -- What is written of a key, and what is then still to be written.
-use Rattle.std.proofs.Common.{◌≡◌, ◌∙◌, ℕ, suc, ◌+◌, ◌≤◌, ◌<◌, Bool, true, false, ◌&&◌, List, [], ◌∷◌, ◌++◌, length, map, Option, Some, None, is_some, le-leb, leb-true, Result, Ok, Err, length-append, sym, ap, refl, arith, append_assoc, append-nil, drop, subst}
+use Rattle.std.proofs.Common.{◌≡◌, ◌∙◌, ℕ, suc, ◌+◌, ◌≤◌, ◌<◌, Bool, true, false, ◌&&◌, List, [], ◌∷◌, ◌++◌, length, map, Option, Some, None, is_some, le-leb, leb-true, Result, Ok, Err, length-append, sym, ap, refl, arith, append_assoc, append-nil, subst}
 use Rattle.std.specs.Prelude.{IfOk, OnOk, if◌then◌else◌, is_err, nat_le}
 use Rattle.std.specs.Io.KnownBytes.{Appends}
 use Rattle.std.specs.List.{AllByRecursion}

@@ -22,7 +22,7 @@ use Rattle.xb_rx.specs.declared.request.Request.{Request}
 use Rattle.xb_rx.specs.declared.request.Written.TheVariants as written
 use Rattle.xb_rx.specs.Hearing.{DeliversTimed, Outputs, outputs, sound_by, told_text_of}
 use Rattle.xb_rx.specs.Pages.{heard_entries, page_of}
-use Rattle.xb_rx.specs.Samples.{Sound}
+use Rattle.xb_rx.specs.Samples.{IsWhole, Sound}
 
 -- the keyed entries of the page in a file, whose lines end at LF or at CR LF, where its bytes are known
 abbrev pub HasKeyed : Option (List ℕ) → List KeyedEntry → Type 0
@@ -33,7 +33,7 @@ HasKeyed file keyed = IfSome file (λ page. IsKeyed (lf_ended page) keyed)
 abbrev pub IsHeard : Input → Option (List ℕ) → List KeyedEntry → Option (List ℕ) → Option (List ℕ) → Type 0
 IsHeard how None heard old new = Unit {0}
 IsHeard how (Some bytes) heard old new =
-    (sound : Sound) × (sound_by how bytes ≡ Ok sound) × (sound.lacking ≡ 0)
+    (sound : Sound) × (sound_by how bytes ≡ Ok sound) × IsWhole sound
     × Appends old new (told_text_of (written.Page 0 0) sound.samples) × (heard ≡ heard_entries (keys_of_sound sound.samples))
 
 -- why a file gives no keyed entries

@@ -3,6 +3,7 @@ use Rattle.std.specs.Prelude.{ℕ, ◌++◌, List, codes, decimal, Option, Some,
 use Rattle.xb_clock.specs.declared.times.TheConstants.{LAST_TIME}
 use Rattle.xb_page.specs.FaultTexts.{page_fault_text}
 use Rattle.xb_riff.specs.FaultTexts.{head_text}
+use Rattle.xb_rx.specs.OtherForms.{form_text}
 use Rattle.xb_rx.specs.declared.wav_start.WavFault.{WavFault}
 use Rattle.xb_rx.specs.declared.wav_start.WavFault.TheVariants as wav
 use Rattle.xb_rx.specs.declared.fault.RxFault.{RxFault}
@@ -15,6 +16,7 @@ use Rattle.xb_rx.specs.declared.comparing.CompareProgramFault.TheVariants as dif
 -- of a WAV file
 abbrev pub wav_text : WavFault → List ℕ
 wav_text (wav.Head fault) = head_text fault
+wav_text (wav.Other form) = form_text form
 wav_text (wav.Rate rate) =
     codes "the chunk \"fmt \" has " ++ decimal rate
     ++ codes " samples a second, and not 8000 times 1, 2, 3, 4, 6, 8, 12 or 24: sox IN.wav -r 8000 OUT.wav"
@@ -28,6 +30,7 @@ rx_text (rx.Wav fault) = codes "the sound is no WAV file that can be heard: " ++
 rx_text (rx.Cut missing) =
     codes "the sound is cut off: " ++ decimal missing
     ++ codes " samples of 8000 a second are missing at its end"
+rx_text rx.More = codes "more follows than the head of the sound counts: sox --ignore-length IN.wav OUT.wav"
 rx_text rx.NoMemory = codes "out of memory"
 rx_text rx.Write = codes "what was heard could not be written"
 rx_text (rx.Late ms) =

@@ -18,6 +18,7 @@ use Rattle.xb_rx.specs.declared.wav_start.OpenFault.TheVariants as open_fault
 abbrev pub of_stream : StreamFault → RxFault
 of_stream stream_fault.Read = fault.Read
 of_stream (stream_fault.Cut missing) = fault.Cut missing
+of_stream stream_fault.More = fault.More
 
 abbrev pub of_open : OpenFault → RxFault
 of_open open_fault.Read = fault.Read

@@ -1,5 +1,5 @@
 -- What is written of a sound.
-use Rattle.std.specs.Prelude.{ℕ, ◌≡◌, ◌⊎◌, ◌<◌, List, ◌++◌, ℤ, false, Option, Some, None, Result, Ok, Err}
+use Rattle.std.specs.Prelude.{ℕ, ◌≡◌, ◌⊎◌, ◌<◌, List, ◌++◌, ℤ, true, false, Option, Some, None, Result, Ok, Err}
 use Rattle.std.specs.Io.KnownBytes.{Appends, Keeps}
 use Rattle.jiff_core.specs.declared.timestamp.Timestamp.{Timestamp}
 use Rattle.xb_clock.specs.Clocks.{Clock, IsClockSince, IsLateAt}
@@ -18,7 +18,7 @@ use Rattle.xb_rx.specs.declared.wav_start.TheConstants.{UNKNOWN_SAMPLES}
 use Rattle.xb_rx.specs.Listeners.{quiet_of}
 use Rattle.xb_rx.specs.Timed.{Timing, timing_by}
 use Rattle.xb_rx.specs.Reports.{Reported, report_rest, told_rest, told_text, written_text}
-use Rattle.xb_rx.specs.Samples.{IsForm, Sound, sound_of}
+use Rattle.xb_rx.specs.Samples.{IsForm, IsWhole, Sound, sound_of}
 use Rattle.xb_rx.specs.Starts.{start_of_file}
 
 -- what the output and the stream of errors had, and have
@@ -41,10 +41,11 @@ pub record Began (outs : Outputs) (page told : List ℕ) : Type 0 where
   pub page_begun : AppendsBeginning outs.page_old outs.page_new page
   pub told_begun : AppendsBeginning outs.told_old outs.told_new told
 
--- what a fault says of the sound: where samples are missing, so many were to come after it; where a time of day is too
--- late, so many ms after the one that is given are past the last instant
+-- what a fault says of the sound: where samples are missing, so many were to come after it; where more follows, its head
+-- counts too few; where a time of day is too late, so many ms after the one that is given are past the last instant
 abbrev pub IsFaultOf : Option Timestamp → Sound → RxFault → Type 0
 IsFaultOf since sound (fault.Cut n) = (sound.lacking ≡ n) × (0 < n)
+IsFaultOf since sound fault.More = sound.more ≡ true
 IsFaultOf since sound (fault.Late ms) = IsLateAt since ms
 IsFaultOf since sound (fault.Wav f) = ⊥
 IsFaultOf since sound f = Unit {0}
@@ -63,7 +64,7 @@ Hears since None report (Ok u) outs =
     × Wrote outs (report_rest report (keys_of_sound samples) styles) (told_rest_of report samples)
 Hears since None report (Err f) outs = Unit {0}
 Hears since (Some sound) report (Ok u) outs =
-    (sound.lacking ≡ 0)
+    IsWhole sound
     × ((styles : ℕ → Looks)
     × Wrote outs (report_rest report (keys_of_sound sound.samples) styles) (told_rest_of report sound.samples))
 Hears since (Some sound) report (Err f) outs =
@@ -80,12 +81,12 @@ HasForm (input.Raw form) = IsForm form
 abbrev pub start_by : Input → List ℕ → Result (Start × List ℕ) WavFault
 start_by (input.Wav channel) bytes = start_of_file channel bytes
 start_by (input.Raw form) bytes =
-    Ok (record { form = form; samples = UNKNOWN_SAMPLES; counted = false }, bytes)
+    Ok (record { form = form; samples = UNKNOWN_SAMPLES; counted = false; spare = 0 }, bytes)
 
 -- the sound that bytes say
 abbrev pub sound_after : Result (Start × List ℕ) WavFault → Result Sound WavFault
 sound_after (Err f) = Err f
-sound_after (Ok (start, rest)) = Ok (sound_of start.form start.samples start.counted rest)
+sound_after (Ok (start, rest)) = Ok (sound_of start.form start.samples start.counted start.spare rest)
 
 abbrev pub sound_by : Input → List ℕ → Result Sound WavFault
 sound_by how bytes = sound_after (start_by how bytes)
@@ -93,7 +94,7 @@ sound_by how bytes = sound_after (start_by how bytes)
 -- what was written and told of a sound
 abbrev pub HearsSound : Timing → Written → Sound → Result (Unit {0}) RxFault → Outputs → Type 0
 HearsSound timing written sound (Ok u) outs =
-    (sound.lacking ≡ 0)
+    IsWhole sound
     × ((styles : ℕ → Looks)
     × Wrote outs (written_text timing written (keys_of_sound sound.samples) styles) (told_text_of written sound.samples))
 HearsSound timing written sound (Err f) outs =

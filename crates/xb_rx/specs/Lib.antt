@@ -1,7 +1,9 @@
 pub mod Constants
 pub mod FaultTexts
+pub mod Tails
 pub mod Samples
 pub mod Streams
+pub mod OtherForms
 pub mod Starts
 pub mod Weights
 pub mod Faults

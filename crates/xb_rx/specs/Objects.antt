@@ -18,7 +18,7 @@ last_entry timing n line (is_loose key ∷ parts) = last_entry timing n [] parts
 abbrev pub entry_ended : Timing → ℕ → List Heard → List ℕ
 entry_ended timing n keys = last_entry timing n [] (parts_of keys)
 
--- what is written of a key: its object, and that of the entry that it ends, if it does
+-- what is written of a key: that of the entry that it ends, if it does, and its object
 pub record Told : Type 0 where
   pub key : List ℕ
   pub entry : List ℕ
@@ -32,7 +32,7 @@ told_after timing n earlier last (key ∷ keys) =
 
 abbrev pub objects_after : Timing → ℕ → List Heard → Option Heard → List Heard → List ℕ
 objects_after timing n earlier last keys =
-    flat_map (λ (t : Told). t.key ++ t.entry) (told_after timing n earlier last keys)
+    flat_map (λ (t : Told). t.entry ++ t.key) (told_after timing n earlier last keys)
 
 -- the objects of keys
 abbrev pub object_lines : Timing → List Heard → List ℕ

@@ -1,5 +1,5 @@
 -- What the program does.
-use Rattle.std.specs.Prelude.{ℕ, ◌≡◌, ◌⊎◌, List, None, Option, Some, Err, Ok, option_map}
+use Rattle.std.specs.Prelude.{ℕ, List, None, Option, Some, Err, Ok}
 use Rattle.std.specs.Borrow.{Bor}
 use Rattle.clap.specs.Walk.{Text}
 use Rattle.xb_command.specs.Files.{Bytes}
@@ -7,7 +7,6 @@ use Rattle.xb_command.specs.Programs.{Streams}
 use Rattle.xb_command.specs.Telling.{Tells}
 use Rattle.xb_command.specs.Works.{Rules, file_source}
 use Rattle.xb_command.specs.declared.table.Program.{Program}
-use Rattle.xb_command.specs.declared.telling.TheConstants.{DONE, FAULT}
 use Rattle.xb_rx.specs.declared.request.Asked.{Asked}
 use Rattle.xb_rx.specs.declared.fault.RxFault.{RxFault}
 use Rattle.xb_rx.specs.declared.comparing.CompareProgramFault.{CompareProgramFault}

@@ -1,8 +1,9 @@
 -- The samples that bytes write, 8,000 of them a second.
-use Rattle.std.specs.Prelude.{ℕ, zero, suc, ◌≡◌, ◌+◌, ◌-◌, ◌*◌, ◌/◌, ◌%◌, ◌<◌, ◌≤◌, List, [], ◌∷◌, ◌++◌, drop, length, min, replicate, slice_index_or, ℤ, pos, negsuc, ◌+ℤ◌, ◌-ℤ◌, ◌*ℤ◌, Bool, ◌==◌, if◌then◌else◌}
+use Rattle.std.specs.Prelude.{ℕ, zero, suc, ◌≡◌, ◌+◌, ◌-◌, ◌*◌, ◌/◌, ◌%◌, ◌<◌, ◌≤◌, List, [], ◌∷◌, ◌++◌, drop, length, min, replicate, slice_index_or, ℤ, pos, negsuc, ◌+ℤ◌, ◌-ℤ◌, ◌*ℤ◌, Bool, false, not, ◌==◌, ◌&&◌, if◌then◌else◌}
 use Rattle.xb_riff.specs.Codings.{sample_at, width}
 use Rattle.xb_rx.specs.declared.coding.SampleForm.{SampleForm}
 use Rattle.xb_rx.specs.declared.coding.TheConstants.{MOST_CHANNELS, MOST_FRAMES}
+use Rattle.xb_rx.specs.Tails.{chunks_after}
 use Rattle.xb_rx.specs.Weights.{weight_at}
 
 -- there are channels, of which one is heard, and a number of frames that divides the most
@@ -69,13 +70,19 @@ heard_samples frames n before samples =
 abbrev pub silence : SampleForm → List ℤ
 silence form = replicate (7 * form.frames) (pos 0)
 
--- samples, and how many are said to come after them and do not
+-- samples, how many are said to come after them and do not, and whether others come that are not said
 pub record Sound : Type 0 where
   pub samples : List ℤ
   pub lacking : ℕ
+  pub more : Bool
 
-abbrev pub sound_with : List ℤ → ℕ → Sound
-sound_with samples lacking = record { samples = samples; lacking = lacking }
+abbrev pub sound_with : List ℤ → ℕ → Bool → Sound
+sound_with samples lacking more = record { samples = samples; lacking = lacking; more = more }
+
+-- it is whole
+pub record IsWhole (sound : Sound) : Type 0 where
+  pub lacks : sound.lacking ≡ 0
+  pub ends : sound.more ≡ false
 
 -- how many whole samples bytes write
 abbrev pub whole_samples : SampleForm → List ℕ → ℕ
@@ -85,13 +92,14 @@ whole_samples form bytes = length bytes / group_bytes form
 abbrev pub samples_of : SampleForm → ℕ → List ℤ → List ℕ → List ℤ
 samples_of form n before bytes = heard_samples form.frames n before (channel_of form (n * form.frames) bytes)
 
--- the sound of bytes that are said to write so many samples, after those before them; where they are counted, each has
--- to come
-abbrev pub sound_after : SampleForm → List ℤ → ℕ → Bool → List ℕ → Sound
-sound_after form before said counted bytes =
+-- the sound of bytes that are said to write so many samples, after those before them. Where they are counted, each has
+-- to come; after them may stand some bytes more, and chunks
+abbrev pub sound_after : SampleForm → List ℤ → ℕ → Bool → ℕ → List ℕ → Sound
+sound_after form before said counted spare bytes =
     sound_with (samples_of form (min said (whole_samples form bytes)) before bytes)
     (if counted then said - whole_samples form bytes else 0)
+    (counted && not (chunks_after (said * group_bytes form + spare) bytes))
 
 -- the sound of all bytes of a stream, before which there is silence
-abbrev pub sound_of : SampleForm → ℕ → Bool → List ℕ → Sound
-sound_of form said counted bytes = sound_after form (silence form) said counted bytes
+abbrev pub sound_of : SampleForm → ℕ → Bool → ℕ → List ℕ → Sound
+sound_of form said counted spare bytes = sound_after form (silence form) said counted spare bytes

@@ -1,9 +1,9 @@
 -- What the samples of a WAV file begin with.
-use Rattle.std.specs.Prelude.{ℕ, ◌≡◌, ◌/◌, ◌%◌, ◌==◌, ◌&&◌, List, nat_lt, true, false, if◌then◌else◌, Option, Some, None, Result, Ok, Err}
+use Rattle.std.specs.Prelude.{ℕ, ◌≡◌, ◌+◌, ◌/◌, ◌%◌, ◌==◌, ◌&&◌, List, ◌++◌, take, nat_lt, true, false, if◌then◌else◌, Option, Some, None, Result, Ok, Err}
 use Rattle.xb_riff.specs.declared.coding.Coding.{Coding}
 use Rattle.xb_riff.specs.declared.head.HeadFault.{HeadFault}
 use Rattle.xb_riff.specs.declared.head.WavFormat.{WavFormat}
-use Rattle.xb_riff.specs.Heads.{Samples, head_of}
+use Rattle.xb_riff.specs.Heads.{HeadSoFar, Samples, head_of, rest_of}
 use Rattle.xb_rx.specs.declared.coding.SampleForm.{SampleForm}
 use Rattle.xb_rx.specs.declared.coding.TheConstants.{MOST_FRAMES}
 use Rattle.xb_rx.specs.declared.wav_start.Start.{Start}
@@ -11,7 +11,9 @@ use Rattle.xb_rx.specs.declared.wav_start.WavFault.{WavFault}
 use Rattle.xb_rx.specs.declared.wav_start.WavFault.TheVariants as fault
 use Rattle.xb_rx.specs.declared.wav_start.OpenFault.{OpenFault}
 use Rattle.xb_rx.specs.declared.wav_start.OpenFault.TheVariants as open_fault
-use Rattle.xb_rx.specs.declared.wav_start.TheConstants.{UNKNOWN_SAMPLES}
+use Rattle.xb_rx.specs.declared.other_form.OtherForm.{OtherForm}
+use Rattle.xb_rx.specs.declared.wav_start.TheConstants.{FIRST_BYTES, UNKNOWN_SAMPLES}
+use Rattle.xb_rx.specs.OtherForms.{other_form}
 use Rattle.xb_rx.specs.Samples.{group_bytes}
 
 abbrev pub form_with : Coding → ℕ → ℕ → ℕ → SampleForm
@@ -25,13 +27,18 @@ frames_of hz =
 
 -- samples of a form whose number is not known
 abbrev pub uncounted : SampleForm → Start
-uncounted form = record { form = form; samples = UNKNOWN_SAMPLES; counted = false }
+uncounted form = record { form = form; samples = UNKNOWN_SAMPLES; counted = false; spare = 0 }
 
--- what samples of a form begin with: how many they are said to be, where that is said; 0 bytes are said in a pipe
+-- what samples of a form begin with: how many they are said to be, where that is said, and how many bytes may stand after
+-- them, of a sample that is not whole and to make them even; 0 bytes are said in a pipe
 abbrev pub start_by : SampleForm → Option ℕ → Start
 start_by form (Some bytes) =
-    if nat_lt 0 bytes then record { form = form; samples = bytes / group_bytes form; counted = true }
-    else uncounted form
+    if nat_lt 0 bytes then record {
+      form = form;
+      samples = bytes / group_bytes form;
+      counted = true;
+      spare = bytes % group_bytes form + bytes % 2;
+    } else uncounted form
 start_by form None = uncounted form
 
 abbrev pub start_at : WavFormat → ℕ → Option ℕ → Result Start WavFault
@@ -45,13 +52,24 @@ start_at format channel (Some frames) =
 abbrev pub start_with : ℕ → WavFormat → Result Start WavFault
 start_with channel format = start_at format channel (frames_of format.rate)
 
--- what a file says of its samples, and the bytes from there on
-abbrev pub format_by : Result Samples HeadFault → Result (WavFormat × List ℕ) WavFault
-format_by (Err f) = Err (fault.Head f)
-format_by (Ok samples) = Ok samples
+-- what a file says of its samples, and the bytes from there on; of another form it says nothing of them
+abbrev pub format_by : Option OtherForm → Result Samples HeadFault → Result (WavFormat × List ℕ) WavFault
+format_by (Some form) head = Err (fault.Other form)
+format_by None (Err f) = Err (fault.Head f)
+format_by None (Ok samples) = Ok samples
 
 abbrev pub format_of_file : List ℕ → Result (WavFormat × List ℕ) WavFault
-format_of_file bytes = format_by (head_of bytes)
+format_of_file bytes = format_by (other_form (take FIRST_BYTES bytes)) (head_of bytes)
+
+-- a file that begins so is of no other form, and its head goes on so; or it is refused
+pub record BeginsFile (first : List ℕ) (head : HeadSoFar) : Type 0 where
+  pub none : other_form first ≡ None
+  pub goes_on : (rest : List ℕ) → head_of (first ++ rest) ≡ rest_of head rest
+
+abbrev pub RefusesFile : List ℕ → WavFault → Type 0
+RefusesFile first (fault.Other form) = other_form first ≡ Some form
+RefusesFile first (fault.Head f) = (other_form first ≡ None) × ((rest : List ℕ) → head_of (first ++ rest) ≡ Err f)
+RefusesFile first f = ⊥
 
 abbrev pub start_and : Result Start WavFault → List ℕ → Result (Start × List ℕ) WavFault
 start_and (Err f) rest = Err f

@@ -1,5 +1,5 @@
 -- What is read of a stream, and the sound that it has left.
-use Rattle.std.specs.Prelude.{ℕ, suc, ◌≡◌, ◌*◌, ◌≤◌, ◌<◌, List, [], ◌∷◌, ◌++◌, length, take, ℤ, Option, Some, None, Result, Ok, Err, option_map}
+use Rattle.std.specs.Prelude.{ℕ, suc, ◌≡◌, ◌*◌, ◌≤◌, ◌<◌, true, false, List, [], ◌∷◌, ◌++◌, length, take, ℤ, Option, Some, None, Result, Ok, Err, option_map}
 use Rattle.std.specs.Io.KnownBytes.{Consumes, IsAtEnd}
 use Rattle.xb_rx.specs.declared.source.Source.{Source}
 use Rattle.xb_rx.specs.declared.source.StreamFault.{StreamFault}
@@ -26,13 +26,15 @@ HearsGroup form group before sample after =
 
 -- the sound that a source has still to give, where its bytes are known
 abbrev pub sound_left : {R : Type 0} → (R → Option (List ℕ)) → Source R → Option Sound
-sound_left remaining s = option_map (sound_after s.form (recent s) s.said s.counted) (remaining s.reader)
+sound_left remaining s = option_map (sound_after s.form (recent s) s.said s.counted s.spare) (remaining s.reader)
 
--- what one call gives of the sound that was left: the next sample, that it ends, or that there were to be more
+-- what one call gives of the sound that was left: the next sample, that it ends, that there were to be more, or that more
+-- follows
 abbrev pub GivesSample : Option Sound → Result (Option ℤ) StreamFault → Option Sound → Type 0
 GivesSample None result new = Unit {0}
 GivesSample (Some old) (Ok (Some sample)) None = ⊥
-GivesSample (Some old) (Ok (Some sample)) (Some new) = old ≡ sound_with (sample ∷ new.samples) new.lacking
-GivesSample (Some old) (Ok None) new = old ≡ sound_with [] 0
-GivesSample (Some old) (Err (fault.Cut n)) new = (old ≡ sound_with [] n) × (0 < n)
+GivesSample (Some old) (Ok (Some sample)) (Some new) = old ≡ sound_with (sample ∷ new.samples) new.lacking new.more
+GivesSample (Some old) (Ok None) new = old ≡ sound_with [] 0 false
+GivesSample (Some old) (Err (fault.Cut n)) new = (old ≡ sound_with [] n false) × (0 < n)
+GivesSample (Some old) (Err fault.More) new = old ≡ sound_with [] 0 true
 GivesSample (Some old) (Err fault.Read) new = Unit {0}

@@ -15,6 +15,8 @@ pub enum RxFault {
     Wav(WavFault),
     /// The file ends, and so many samples of 8,000 a second were to come.
     Cut(u64),
+    /// After the samples that the head counts other bytes follow than chunks.
+    More,
     /// Memory ran out.
     NoMemory,
     /// A write or the flush failed, or a write took no byte. The beginning of the page or of the lines was written.
@@ -40,6 +42,9 @@ impl fmt::Display for RxFault {
             RxFault::Cut(missing) => write!(
                 f,
                 "the sound is cut off: {missing} samples of 8000 a second are missing at its end"
+            ),
+            RxFault::More => f.write_str(
+                "more follows than the head of the sound counts: sox --ignore-length IN.wav OUT.wav",
             ),
             RxFault::NoMemory => f.write_str("out of memory"),
             RxFault::Write => f.write_str("what was heard could not be written"),
@@ -91,6 +96,7 @@ impl From<StreamFault> for RxFault {
         match fault {
             StreamFault::Read => RxFault::Read,
             StreamFault::Cut(missing) => RxFault::Cut(missing),
+            StreamFault::More => RxFault::More,
         }
     }
 }

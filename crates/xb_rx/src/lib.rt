@@ -3,13 +3,14 @@
 //! - `receive`: on `Ok` the output is exactly the page of the keyings that are heard (`page_of` of
 //!   `keys_of_sound` of the samples that the bytes say), and standard error has exactly a line for each doubt
 //!   of one of them and for each key that is in none (`told_of`); or the output is a line for each key
-//!   (`text_lines`); or an object for each key, and for each entry after its ST (`object_lines`), with their
+//!   (`text_lines`); or an object for each key, and for each entry before its ST (`object_lines`), with their
 //!   times of day where `--since` gives the one at which the sound begins (`specs/Timed.antt`); or a page in HTML
 //!   (`html_of`) or a picture in SVG (`svg_of`) of each keying and each key in none. Of a sound without a key
 //!   standard error has a line of how loud it is, and of one without a KP a line of the digits of a
 //!   push-button telephone in it, if there are any (`quiet_of`). On an `Err` the beginning of that was
 //!   written to each. A WAV is refused by the fault that it has (`start_of_file`), and by no other.
-//!   `Cut` says how many samples are missing at its end. Memory does not grow with the sound.
+//!   `Cut` says how many samples are missing at its end, and `More` that its head
+//!   counts too few (`chunks_after`). Memory does not grow with the sound.
 //! - `compare`: on `Ok` the keyings that are heard are those that a page has keyed. On `Differ` the output is
 //!   exactly the differences (`differences`). Another fault says why they are not known, and no difference
 //!   was written. Each keying is compared as it ends (`Page::against`), and is not kept.
@@ -62,6 +63,7 @@ pub mod laws;
 mod listener;
 mod listing;
 mod objects;
+mod other_form;
 mod page;
 mod parts;
 mod program;
@@ -69,6 +71,7 @@ mod receiving;
 mod report;
 mod request;
 mod source;
+mod tail;
 mod timed;
 mod wav_start;
 mod weights;
@@ -81,6 +84,7 @@ pub use differing::differences;
 pub use fault::RxFault;
 pub use keyed::{Keyed, keyed_entries};
 pub use keyed_pages::{CompareFault, keyed_of_page};
+pub use other_form::OtherForm;
 pub use receiving::receive;
 pub use request::{Asked, Input, Request, Written};
 pub use source::{Source, StreamFault};

@@ -1,4 +1,5 @@
-// The objects of keys and of entries, as they end.
+// The objects of keys and of entries, as they end. An entry comes before the ST that ends it: who takes the keys then knows
+// what is doubtful of it.
 use crate::begun::{Step, step_of};
 use crate::page::PageFault;
 use crate::timed::{ReportFault, entry_line, key_line};
@@ -8,7 +9,7 @@ use std::io::Write;
 use xb_measured::{Heard, NamedKey, figures_of};
 use xb_text::write_whole;
 
-/// Keys that are told one by one as objects, and the entries after the keys that complete them, with their times of day
+/// Keys that are told one by one as objects, and the entries before the keys that complete them, with their times of day
 /// where a call gives the one at which the sound begins. It holds the keys of one keying, up to `MOST_DIGITS` digits.
 #[derive(Drop)]
 pub(crate) struct Objects {
@@ -112,7 +113,7 @@ impl Objects {
         }
     }
 
-    // Writes the object of a key, and of the entry that it completes.
+    // Writes the object of a key, and before it that of the entry that it completes.
     fn take_key<W: Write>(
         &mut self,
         alloc: Global,
@@ -131,9 +132,9 @@ impl Objects {
         ensures begun { OnOk result (IsBegun self.new.begun.items) }
     {
         let figures = figures_of(self.last, key);
-        let mut text = key_line(alloc, since, &figures)?;
-        let entry = self.entry_of(alloc, since, NamedKey::of(key))?;
-        text.push_str(&entry)?;
+        let line = key_line(alloc, since, &figures)?;
+        let mut text = self.entry_of(alloc, since, NamedKey::of(key))?;
+        text.push_str(&line)?;
         if write_whole(out, text.as_bytes()).is_err() {
             return Err(ReportFault::Page(PageFault::Write));
         }
@@ -141,7 +142,7 @@ impl Objects {
         Ok(())
     }
 
-    /// Writes the object of the key that ended, if one did, and of the entry that it completes. On an `Err` the
+    /// Writes the object of the key that ended, if one did, after that of the entry that it completes. On an `Err` the
     /// beginning of that was written, and nothing where a time of day is past the last.
     pub(crate) fn take<W: Write>(
         &mut self,

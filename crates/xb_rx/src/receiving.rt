@@ -59,6 +59,7 @@ fn start_of<R: Read>(input: Input, reader: &mut R) -> Result<Start, OpenFault>
             form,
             samples: UNKNOWN_SAMPLES,
             counted: false,
+            spare: 0,
         }),
     }
 }

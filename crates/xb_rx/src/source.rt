@@ -1,11 +1,12 @@
 // The samples of a stream, one at a time.
-ghost use Rattle.std.specs.Prelude.{◌≡◌, ◌+◌, ◌*◌, length, take, IfOk, IfSome};
+ghost use Rattle.std.specs.Prelude.{◌≡◌, ◌+◌, ◌*◌, length, take, IfOk, IfSome, None};
 ghost use Rattle.std.specs.Option.{option_map};
 ghost use Rattle.xb_rx.specs.Samples.{IsForm, group_bytes, sound_of};
 ghost use Rattle.xb_rx.specs.Streams.{FillsUp, GivesSample, HearsGroup, sound_left};
 
 use crate::coding::{MOST_GROUP_BYTES, SampleForm};
 use crate::filter::{MOST_WINDOW, WINDOW, filtered};
+use crate::tail::ends_in_chunks;
 use crate::wav_start::Start;
 use std::io::Read;
 
@@ -16,6 +17,8 @@ pub enum StreamFault {
     Read,
     /// So many samples of 8,000 a second were to come, and did not.
     Cut(u64),
+    /// After those that are counted other bytes follow than chunks.
+    More,
 }
 
 // A read failed.
@@ -65,8 +68,10 @@ pub struct Source<R: Read> {
     pub form: SampleForm,
     /// How many of 8,000 a second are said to come.
     pub said: u64,
-    /// Whether each of them has to.
+    /// Whether each of them has to, and nothing but chunks may follow.
     pub counted: bool,
+    /// After how many bytes these follow.
+    pub spare: u64,
     // Room for the bytes of the next sample.
     group: [u8; MOST_GROUP_BYTES],
     // The channel's samples in the time of the last seven, and room for those of the next one; where there are 8,000 a
@@ -79,7 +84,7 @@ impl<R: Read> Source<R> {
     pub fn new(reader: R, start: Start) -> Source<R>
         requires { IsForm start.form }
         ensures sound { sound_left R.remaining result
-            ≡ option_map (sound_of start.form start.samples start.counted) (R.remaining reader) }
+            ≡ option_map (sound_of start.form start.samples start.counted start.spare) (R.remaining reader) }
         ensures form { result.form ≡ start.form }
         ensures said { result.said ≡ start.samples }
     {
@@ -88,12 +93,32 @@ impl<R: Read> Source<R> {
             form: start.form,
             said: start.samples,
             counted: start.counted,
+            spare: start.spare,
             group: [0; MOST_GROUP_BYTES],
             window: [0; MOST_WINDOW],
         }
     }
 
-    /// The next sample, `None` at the end. `Cut` says how many are missing there. What is given after an `Err` is not
+    // What follows the last sample that is said to come.
+    fn end(&mut self) -> Result<Option<i16>, StreamFault>
+        requires { self.old.said ≡ 0 }
+        ensures sample { GivesSample
+            (sound_left R.remaining self.old) result (sound_left R.remaining self.new) }
+        ensures none { IfOk result (λ sample. sample ≡ None) }
+        ensures form { self.new.form ≡ self.old.form }
+    {
+        if !self.counted {
+            return Ok(None);
+        }
+        match ends_in_chunks(&mut self.reader, self.spare) {
+            Ok(true) => Ok(None),
+            Ok(false) => Err(StreamFault::More),
+            Err(_) => Err(StreamFault::Read),
+        }
+    }
+
+    /// The next sample, `None` at the end. `Cut` says how many are missing there, and `More`
+    /// that the head counts too few. What is given after an `Err` is not
     /// said.
     pub fn next_sample(&mut self) -> Result<Option<i16>, StreamFault>
         requires { IsForm self.old.form }
@@ -103,7 +128,7 @@ impl<R: Read> Source<R> {
         ensures said { IfOk result (λ sample. IfSome sample (λ _. self.new.said + 1 ≡ self.old.said)) }
     {
         if self.said == 0 {
-            return Ok(None);
+            return self.end();
         }
         let size = self.form.group_bytes();
         // With both its ends this part of a field is lent beside the reader.

@@ -58,7 +58,7 @@ where the reader of the output goes away.",
         },
         Word {
             name: "json",
-            help: "the same as JSON objects, and after the last key of an entry the entry, with its doubts",
+            help: "the same as JSON objects, and before the last key of an entry the entry, with its doubts",
             ..FLAG
         },
         Word {

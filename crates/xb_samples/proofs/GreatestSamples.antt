@@ -13,7 +13,10 @@ same-number :
     (channel : ℕ) (high sample : ℤ) (wire : Channel) → (wire_after channel high sample wire).number ≡ wire.number
 same-number channel high sample wire = at (wire.number == channel)
   where
-    at : (own : Bool) → (cond own (record wire { heard = heard_by high wire.heard sample }) wire).number ≡ wire.number
+    at :
+        (own : Bool)
+        → (cond own (record wire { heard = heard_by high wire.heard sample; greatest = max wire.greatest (unsigned_abs sample) }) wire).number
+        ≡ wire.number
     at true = refl
     at false = refl
 

@@ -1,5 +1,5 @@
 -- What sound says: samples, each channel's in turn.
-use Rattle.std.specs.Prelude.{◌≡◌, ℕ, ◌+◌, ◌*◌, ◌/◌, ℤ, pos, neg_ℤ, int_le, List, [], ◌∷◌, ◌++◌, Bool, true, false, Option, Some, None, Result, Ok, Err, length, map, nat_le, nat_lt, not, take, unsigned_abs, unwrap_or, ◌==◌, ◌&&◌, if◌then◌else◌}
+use Rattle.std.specs.Prelude.{◌≡◌, ℕ, ◌+◌, ◌*◌, ◌/◌, ℤ, pos, neg_ℤ, int_le, List, [], ◌∷◌, ◌++◌, Bool, true, false, Option, Some, None, Result, Ok, Err, is_some, length, map, max, nat_le, nat_lt, not, option_map, take, unsigned_abs, unwrap_or, ◌==◌, ◌&&◌, if◌then◌else◌}
 use Rattle.std.specs.List.{list_any}
 use Rattle.std.specs.Option.{ok_or, option_and_then}
 use Rattle.xb_contact.specs.declared.event.Event.{Event}
@@ -83,7 +83,10 @@ heard_by high (heard.Side side) sample = first_heard (side_of high sample) (is_a
 -- a wire after a sample of a channel
 abbrev pub wire_after : ℕ → ℤ → ℤ → Channel → Channel
 wire_after channel high sample wire =
-    if wire.number == channel then record wire { heard = heard_by high wire.heard sample } else wire
+    if wire.number == channel then record wire {
+      heard = heard_by high wire.heard sample;
+      greatest = max wire.greatest (unsigned_abs sample);
+    } else wire
 
 -- its level after its edges
 abbrev pub level_in : Heard → Option Level
@@ -179,18 +182,27 @@ sound_reading = record {
 abbrev pub is_quiet : ℤ → ℕ → Bool
 is_quiet high greatest = nat_lt greatest (3 * unsigned_abs high)
 
--- the greatest threshold for which it is not, but at least 1
-abbrev pub fitting : ℕ → ℕ
-fitting greatest = if (greatest / 981) == 0 then 1 else greatest / 981
+-- then the greatest threshold is told for which it is not, if there is one
+abbrev pub quiet_fault : ℕ → Refusal
+quiet_fault greatest = if (greatest / 981) == 0 then refusals.Silent else refusals.Quiet (greatest / 981)
+
+-- a wire without an edge is idle, whatever it sounds like; one with edges has to have a loud one
+abbrev pub has_quiet_edges : ℤ → Channel → Bool
+has_quiet_edges high wire = is_some (level_in wire.heard) && is_quiet high wire.greatest
+
+abbrev pub quiet_among : ℤ → List Channel → Option ℕ
+quiet_among high [] = None
+quiet_among high (wire ∷ rest) = if has_quiet_edges high wire then Some wire.greatest else quiet_among high rest
 
 -- what is wrong at the end of a sound: so many bytes of it are wanted, more follows it, no tick has gone by, or its
--- greatest sample is quiet
+-- greatest sample is quiet, or that of a wire that has edges
 abbrev pub end_fault : Option ℕ → Bool → SoundState → Option Refusal
 end_fault left more state =
     if nat_lt 0 (unwrap_or left 0) then Some (refusals.CutOff (unwrap_or left 0))
     else (if more then Some refusals.MoreFollows
     else (if state.count == FIRST_TICK then Some refusals.Empty
-    else (if is_quiet state.high state.greatest then Some (refusals.Quiet (fitting state.greatest)) else None)))
+    else (if is_quiet state.high state.greatest then Some (quiet_fault state.greatest)
+    else option_map quiet_fault (quiet_among state.high state.wires))))
 
 -- after further bytes
 abbrev pub samples_left : Sound → List ℕ → List ℤ
@@ -212,7 +224,7 @@ channel_of channels name =
     option_and_then (λ n. if nat_le 1 n && nat_le n channels then Some n else None) (number_of name)
 
 abbrev pub new_wire : ℕ → Channel
-new_wire number = record { number = number; heard = heard.Nothing }
+new_wire number = record { number = number; heard = heard.Nothing; greatest = 0 }
 
 -- those of names, from this wire on; the first name of none is told
 abbrev pub wires_from : ℕ → ℕ → List (List ℕ) → Result (List Channel) Refusal

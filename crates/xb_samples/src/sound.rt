@@ -4,13 +4,15 @@ ghost use Rattle.std.specs.List.{list_any};
 ghost use Rattle.xb_contact.specs.Steps.{AddsAll, IsOnly, IsRefusedBy, result_and_then};
 ghost use Rattle.xb_contact.specs.declared.event.Event.{Event as Saying};
 ghost use Rattle.xb_samples.specs.Pieces.{RunsOver, after_piece, piece_events};
-ghost use Rattle.xb_samples.specs.Sounds.{IsNewSound, SoundSays, begun_after, can_leave, changes_said, channel_of, edge_said, end_fault, greatest_after, heard_by, high_of, is_channel, level_in, own_bytes, rest_said, rests_said, samples_after, sound_begins, sound_fault, sound_reading, sound_says, sound_state, turned, wire_after, wires_of};
+ghost use Rattle.xb_samples.specs.Sounds.{IsNewSound, SoundSays, begun_after, can_leave, changes_said, channel_of, edge_said, end_fault, greatest_after, has_quiet_edges, heard_by, high_of, is_channel, level_in, own_bytes, quiet_among, rest_said, rests_said, samples_after, sound_begins, sound_fault, sound_reading, sound_says, sound_state, turned, wire_after, wires_of};
 ghost use Rattle.xb_samples.specs.declared.sound.TheConstants.{FIRST_TICK};
 ghost use Rattle.xb_samples.specs.Tails.{follows_more, left_after};
 
 use crate::bits::say_rate;
 use crate::tail::Tail;
-use crate::threshold::{Threshold, fitting, heard_level, high_of, is_at_rest, is_quiet, side_of};
+use crate::threshold::{
+    Threshold, heard_level, high_of, is_at_rest, is_quiet, quiet_fault, side_of,
+};
 use std::alloc::{AllocError, Global};
 use xb_contact::{Event, Level, Refusal, number_of, say};
 use xb_riff::Coding;
@@ -36,6 +38,8 @@ enum Heard {
 struct Channel {
     number: u8,
     heard: Heard,
+    // Its greatest sample, whatever its sign.
+    greatest: u16,
 }
 
 // The channel that a wire is, by its number.
@@ -58,10 +62,12 @@ fn wires_of(alloc: Global, names: &[&str], channels: u8) -> Result<Vec<Channel>,
     for (wire, name) in names.iter().enumerate() {
         match channel_of(name, channels) {
             Some(number) => {
-                let heard = Heard::Nothing;
-                wires
-                    .push(Channel { number, heard })
-                    .map_err(AllocError::from)?
+                let channel = Channel {
+                    number,
+                    heard: Heard::Nothing,
+                    greatest: 0,
+                };
+                wires.push(channel).map_err(AllocError::from)?
             }
             None => return Err(Refusal::NoWire(wire)),
         }
@@ -133,13 +139,18 @@ fn wire_after(channel: u8, high: i16, sample: i16, wire: Channel) -> Channel
     requires { pos 0 <ℤ high }
     ensures { result ≡ wire_after channel high sample wire }
 {
-    let Channel { number, heard } = wire;
+    let Channel {
+        number,
+        heard,
+        greatest,
+    } = wire;
     if number != channel {
         return wire;
     }
     Channel {
         number,
         heard: heard_by(high, heard, sample),
+        greatest: greatest.max(sample.unsigned_abs()),
     }
 }
 
@@ -186,6 +197,25 @@ fn hear_sample(
         *wire = after;
     }
     Ok(())
+}
+
+// Whether a wire has edges, and no loud one.
+fn has_quiet_edges(threshold: Threshold, wire: Channel) -> bool
+    ensures { result ≡ has_quiet_edges (high_of threshold) wire }
+{
+    level_in(wire.heard).is_some() && is_quiet(threshold, wire.greatest)
+}
+
+// The greatest sample of the first wire that has edges, and no loud one.
+fn quiet_among(threshold: Threshold, wires: &[Channel]) -> Option<u16>
+    ensures { result ≡ quiet_among (high_of threshold) wires.now }
+{
+    for wire in wires {
+        if has_quiet_edges(threshold, *wire) {
+            return Some(wire.greatest);
+        }
+    }
+    None
 }
 
 // Whether a channel is a wire.
@@ -410,14 +440,18 @@ impl Sound {
             return Some(Refusal::Empty);
         }
         if is_quiet(self.threshold, self.greatest) {
-            return Some(Refusal::Quiet(fitting(self.greatest)));
+            return Some(quiet_fault(self.greatest));
         }
-        None
+        match quiet_among(self.threshold, &self.wires) {
+            Some(greatest) => Some(quiet_fault(greatest)),
+            None => None,
+        }
     }
 
     /// The end: the wires hold their levels up to where the samples go, and one without an edge rests there. It is refused where bytes are missing that the
     /// head counts (`CutOff`), where more follows these than chunks (`MoreFollows`), where no tick has gone by
-    /// (`Empty`), and where the greatest sample of the wires is under three times the threshold (`Quiet`).
+    /// (`Empty`), and where the greatest sample of the wires, or of one that has an edge, is under three times the threshold
+    /// (`Quiet`, or `Silent` where it is under three times the least one).
     pub fn end(&self, events: &mut Vec<Event>) -> Result<(), Refusal>
         requires { events.old.items ≡ [] }
         ensures said { OnOk result (SoundSays self.now [] events.new.items) }

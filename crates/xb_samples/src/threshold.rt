@@ -1,10 +1,10 @@
 // How loud a sample has to be.
 ghost use Rattle.std.specs.Prelude.{◌≡◌, ◌<ℤ◌, ◌≤◌, ◌↔◌, IfSome, IsSome, pos};
 ghost use Rattle.xb_samples.specs.Hysteresis.{IsHeard};
-ghost use Rattle.xb_samples.specs.Sounds.{fitting, high_of, is_at_rest, is_quiet, side_of};
+ghost use Rattle.xb_samples.specs.Sounds.{high_of, is_at_rest, is_quiet, quiet_fault, side_of};
 
 use std::marker::Model;
-use xb_contact::Level;
+use xb_contact::{Level, Refusal};
 
 /// How far from 0 a sample has to be, in parts of a hundred of the greatest one of 16 bits.
 #[derive(Clone, Copy, Debug, PartialEq, Eq)]
@@ -89,10 +89,14 @@ pub(crate) fn is_quiet(threshold: Threshold, greatest: u16) -> bool
     u32::from(greatest) < 3 * (u32::from(threshold.percent) * 327)
 }
 
-// The greatest threshold for which it is not, but at least 1.
-pub(crate) fn fitting(greatest: u16) -> u8
-    ensures { result ≡ fitting greatest }
+// What is wrong with a greatest sample that is quiet: the greatest threshold for which it is not is told, if there is one.
+pub(crate) fn quiet_fault(greatest: u16) -> Refusal
+    ensures { result ≡ quiet_fault greatest }
 {
     let percent = greatest / 981;
-    if percent == 0 { 1 } else { percent as u8 }
+    if percent == 0 {
+        Refusal::Silent
+    } else {
+        Refusal::Quiet(percent as u8)
+    }
 }

@@ -163,18 +163,13 @@ impl<S: LineStage> Station<S> {
             (received self.new.consumer) (sent self.new.producer) }
         ensures nothing_held { self.new.pending ≡ [] }
     {
-        let mut idle = Pause::new();
-        let mut blocked = Pause::new();
+        let mut pause = Pause::new();
         for _ in rt.forever() {
             gate.pass(post, self.taken);
             match self.turn() {
                 Turn::Ended => return,
-                Turn::Moved => {
-                    idle.items_came(&self.consumer);
-                    blocked.room_came(&self.producer);
-                }
-                Turn::Idle => idle.wait(rt),
-                Turn::Blocked => blocked.wait(rt),
+                Turn::Moved => pause.over(),
+                Turn::Idle | Turn::Blocked => pause.wait(rt),
             }
         }
         unreachable!()

@@ -12,7 +12,6 @@ use Rattle.xb_model.specs.declared.on.On.{On}
 use Rattle.xb_model.specs.declared.plan.Plan.{Plan}
 use Rattle.xb_model.specs.declared.reason.Reason.TheVariants.{Mutilated, Unknown, Abandoned, TimedOut}
 use Rattle.xb_model.specs.Lines.{on_line_of}
-use Rattle.xb_model.specs.Plans.{plan_of_digits}
 use Rattle.xb_model.specs.Keyings.{marks_of}
 use Rattle.xb_model.specs.Routing.{CodedRoute, order_of}
 use Rattle.xb_model.specs.Rows.{LoopRow}
@@ -34,7 +33,7 @@ use Rattle.xb_structs.specs.Lines.{state_in}
 use Rattle.xb_structs.specs.Marks.{mark_on, plain_mark}
 use Rattle.xb_structs.specs.Routes.{AreRoutes}
 use Rattle.xb_structs.specs.Rows.{row_in}
-use Rattle.xb_structs.specs.Tables.{Holds, IsOpen}
+use Rattle.xb_structs.specs.Tables.{Holds, IsOpen, plan_in}
 use Rattle.xb_structs.specs.Giving.{Gives, marks_of_outcomes}
 use Rattle.xb_structs.specs.Taking.{HasNoRoom, IsRefused, Takes, TakesRow, entries_among}
 use Rattle.xb_structs.proofs.Counting.{among-append, among-order, taken-more}
@@ -60,7 +59,7 @@ lines-of l [] on = tt
 lines-of l (mark ∷ marks) on = (line-of mark.line mark.what ∙ on.0, lines-of l marks on.1)
 
 module _ (plain : PlainTable) (plan : Plan) (limits : Limits) (routes : List PlainRoute)
-    (is-plan : plan_of_digits plain.plan ≡ Some plan) (is-limits : limits ≡ plain.limits) (is-routes : routes ≡ take plain.count plain.routes) where
+    (is-plan : plan_in plain ≡ Some plan) (is-limits : limits ≡ plain.limits) (is-routes : routes ≡ take plain.count plain.routes) where
   -- the table that is held has these parts
   held : (table : Table) → Holds plain table → table_by table.routes plan limits ≡ table
   held table holds =

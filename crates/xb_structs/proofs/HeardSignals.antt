@@ -16,7 +16,6 @@ use Rattle.xb_model.specs.declared.signal.Signal.TheVariants.{Seize, Digit, Time
 use Rattle.xb_model.specs.Image.{image_from, image_on}
 use Rattle.xb_model.specs.Numbers.{digit_of_count}
 use Rattle.xb_model.specs.OnLines.{on_line}
-use Rattle.xb_model.specs.Plans.{plan_of_digits}
 use Rattle.xb_model.specs.Records.{record_of}
 use Rattle.xb_model.specs.Routing.{CodedRoute}
 use Rattle.xb_model.specs.Rows.{close_row}
@@ -55,7 +54,7 @@ use Rattle.xb_structs.specs.Lines.{pulse_in, register_in, state_in}
 use Rattle.xb_structs.specs.Marks.{mark_on, plain_mark}
 use Rattle.xb_structs.specs.Routes.{AreRoutes}
 use Rattle.xb_structs.specs.Rows.{line_in}
-use Rattle.xb_structs.specs.Tables.{Holds, IsOpen}
+use Rattle.xb_structs.specs.Tables.{Holds, IsOpen, plan_in}
 use Rattle.xb_structs.specs.Taking.{counted}
 use Rattle.xb_structs.proofs.Counting.{counted-more}
 use Rattle.xb_structs.proofs.Giving.{plain-on}
@@ -173,7 +172,7 @@ line_is n m = at (nat_lt n LINES)
         none p = cc
 
 -- by a table that is open
-module _ (plain : PlainTable) (plan : Plan) (routes : List PlainRoute) (is-plan : plan_of_digits plain.plan ≡ Some plan)
+module _ (plain : PlainTable) (plan : Plan) (routes : List PlainRoute) (is-plan : plan_in plain ≡ Some plan)
     (is-routes : routes ≡ take plain.count plain.routes) where
   planned : (table : Table) → Holds plain table → table_by table.routes plan table.limits ≡ table
   planned table holds =

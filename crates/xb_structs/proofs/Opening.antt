@@ -6,8 +6,8 @@ use Rattle.std.proofs.lemmas.Bool.{cases_Bool, cond-true, cond-false}
 use Rattle.std.proofs.lemmas.List.{length-map}
 use Rattle.std.proofs.lemmas.List.FromFn.{length-enumerate_from}
 use Rattle.toml.specs.Data.{Items, no_items, item}
+use Rattle.xb_model.specs.declared.plan.Lengths.{Lengths}
 use Rattle.xb_model.specs.declared.plan.Plan.{Plan}
-use Rattle.xb_model.specs.declared.plan.Plan.TheVariants.{Seven, Ten}
 use Rattle.xb_model.specs.Plans.{plan_of_digits}
 use Rattle.xb_model.specs.Routing.{CodedRoute}
 use Rattle.xb_routes.specs.declared.fault.RouteFault.{RouteFault}
@@ -18,14 +18,16 @@ use Rattle.xb_routes.specs.Coded.{uncoded}
 use Rattle.xb_routes.specs.Keys.{keys_of}
 use Rattle.xb_routes.specs.Places.{code_number}
 use Rattle.xb_routes.specs.Table.{Table}
-use Rattle.xb_routes.specs.Text.{count, has_code, route_of, table_of_text}
+use Rattle.xb_routes.specs.Items.{count}
+use Rattle.xb_routes.specs.Text.{has_code, route_of, table_of_text}
 use Rattle.xb_routes.proofs.ByText.{text-accepted}
 use Rattle.xb_routes.proofs.CodeNumbers.{number-injective}
 use Rattle.xb_routes.proofs.Places.{has-code, has-code-is}
 use Rattle.xb_structs.specs.declared.route.PlainRoute.{PlainRoute}
 use Rattle.xb_structs.specs.Opening.{or_else, numbered_with}
 use Rattle.xb_structs.specs.Routes.{HaveSameRoutes, numbered, of_code, route_in}
-use Rattle.xb_structs.specs.Tables.{plan_number}
+use Rattle.xb_structs.specs.declared.table.TheConstants.{PLAN_OF_LENGTHS}
+use Rattle.xb_structs.specs.Tables.{plan_said}
 
 or_else-map : {X Y : Type 0} (f : X → Y) (a b : Option X) → option_map f (or_else a b) ≡ or_else (option_map f a) (option_map f b)
 or_else-map f None b = refl
@@ -87,6 +89,13 @@ few-routes text table e =
     length-map {B = Result CodedRoute RouteFault} (enumerate_from 1 (items_list writes.items)) (λ p. route_of table.plan p.0 (keys_of p.1)) in
     omega (arith, alone, each, length-map {B = Result CodedRoute RouteFault} table.routes Ok, length-enumerate_from 1 (items_list writes.items), length-items writes.items, writes.routes.few)
 
-pub plan-back : (plan : Plan) → plan_of_digits (plan_number plan) ≡ Some plan
-plan-back Seven = refl
-plan-back Ten = refl
+-- a number that is that of a plan says it beside any lengths
+pub plan-digits : (number : ℕ) (lengths : Lengths) (plan : Plan) → plan_of_digits number ≡ Some plan
+    → plan_said number lengths ≡ Some plan
+plan-digits number lengths plan e = by (number == PLAN_OF_LENGTHS) refl
+  where
+    by : (b : Bool) → (number == PLAN_OF_LENGTHS) ≡ b → plan_said number lengths ≡ Some plan
+    by false is = cond-false _ _ _ is ∙ e
+    by true is =
+        let same : number ≡ PLAN_OF_LENGTHS = eqb-true number PLAN_OF_LENGTHS is in
+        absurd (cc (rw same at e))

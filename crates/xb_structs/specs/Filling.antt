@@ -14,7 +14,7 @@ use Rattle.xb_routes.specs.Steps.{and_then, or_fault}
 use Rattle.xb_routes.specs.Table.{Table}
 use Rattle.xb_routes.specs.Text.{if_new, route_of, table_by}
 use Rattle.xb_structs.specs.declared.table.PlainTable.{PlainTable}
-use Rattle.xb_structs.specs.Tables.{Holds}
+use Rattle.xb_structs.specs.Tables.{Holds, plan_in}
 
 -- the table without routes that a plan and limits begin, or the first fault of a text with these
 abbrev pub begun : ℕ → Limits → Result Table RouteFault
@@ -34,7 +34,7 @@ with_route table route = table_by (table.routes ++ route ∷ []) table.plan tabl
 -- a table that has a plan takes a route more
 pub record HasPlace (plain : PlainTable) : Type 0 where
   pub plan : Plan
-  pub has : plan_of_digits plain.plan ≡ Some plan
+  pub has : plan_in plain ≡ Some plan
   pub room : plain.count < MOST_ROUTES
 
 -- what the keys of route i write by the table's plan is its next route; whatever table it held, it holds that with the
@@ -58,8 +58,8 @@ pub record IsTwice (plain : PlainTable) (i : ℕ) (keys : FourKeys) (f : RouteFa
 -- code: the first that is so
 abbrev pub IsNotAdded : RouteFault → PlainTable → ℕ → FourKeys → Type 0
 IsNotAdded f plain i keys =
-    ((f ≡ fault.Plan) × (plan_of_digits plain.plan ≡ None))
-    ⊎ (((f ≡ fault.TooMany) × IsSome (plan_of_digits plain.plan) × (MOST_ROUTES ≤ plain.count))
+    ((f ≡ fault.Plan) × (plan_in plain ≡ None))
+    ⊎ (((f ≡ fault.TooMany) × IsSome (plan_in plain) × (MOST_ROUTES ≤ plain.count))
     ⊎ (((place : HasPlace plain) × (route_of place.plan i (Some keys) ≡ Err f))
     ⊎ IsTwice plain i keys f))
 

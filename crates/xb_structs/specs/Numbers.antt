@@ -7,7 +7,6 @@ use Rattle.xb_model.specs.declared.stage.TheConstants.{MOST_OUTPUTS}
 use Rattle.xb_model.specs.declared.plan.Plan.{Plan}
 use Rattle.xb_model.specs.Keyings.{marks_of}
 use Rattle.xb_model.specs.Numbers.{before_mutilated, shortest_complete}
-use Rattle.xb_model.specs.Plans.{plan_of_digits}
 use Rattle.xb_model.specs.Routing.{order_of}
 use Rattle.xb_routes.specs.Table.{Table}
 use Rattle.xb_structs.specs.declared.mark.PlainMark.{PlainMark}
@@ -15,7 +14,7 @@ use Rattle.xb_structs.specs.declared.number.NotRouted.{NotRouted}
 use Rattle.xb_structs.specs.declared.number.NotRouted.TheVariants as why
 use Rattle.xb_structs.specs.declared.table.PlainTable.{PlainTable}
 use Rattle.xb_structs.specs.Marks.{mark_on}
-use Rattle.xb_structs.specs.Tables.{Holds, IsOpen}
+use Rattle.xb_structs.specs.Tables.{Holds, IsOpen, plan_in}
 
 -- the digit that a byte is, if it is one
 abbrev pub digit_or_none : ℕ → Option ℕ
@@ -42,7 +41,7 @@ number_of_bytes plan bytes = number_of_digits plan (map digit_or_none bytes)
 pub record Completes (plain : PlainTable) (bytes : List ℕ) (number : Result (List ℕ) NotRouted) : Type 0 where
   pub is_open : IsOpen plain
   pub plan : Plan
-  pub has : plan_of_digits plain.plan ≡ Some plan
+  pub has : plan_in plain ≡ Some plan
   pub is : number_of_bytes plan bytes ≡ number
 
 -- the number that the bytes complete is keyed by its route, or refused: so many marks at the front of the room are

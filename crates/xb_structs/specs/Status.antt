@@ -8,6 +8,8 @@ use Rattle.xb_structs.specs.declared.printing.PrintFault.{PrintFault}
 use Rattle.xb_structs.specs.declared.printing.PrintFault.TheVariants as print
 use Rattle.xb_structs.specs.declared.refusal.Refusal.{Refusal}
 use Rattle.xb_structs.specs.declared.refusal.Refusal.TheVariants as refusal
+use Rattle.xb_routes.specs.declared.fault.NumberFault.{NumberFault}
+use Rattle.xb_routes.specs.declared.fault.NumberFault.TheVariants as rule
 use Rattle.xb_routes.specs.declared.fault.RouteFault.{RouteFault}
 use Rattle.xb_routes.specs.declared.fault.RouteFault.TheVariants as fault
 
@@ -18,6 +20,15 @@ refusal_status refusal.Line = 4
 refusal_status refusal.State = 5
 refusal_status refusal.Ms = 6
 refusal_status refusal.Room = 7
+
+-- of a table with an entry of numbers that breaks a rule
+abbrev pub number_status : NumberFault → ℕ
+number_status rule.Shape = 31
+number_status rule.Begins = 32
+number_status rule.Digits = 33
+number_status rule.Short = 34
+number_status rule.Twice = 35
+number_status rule.Outgrown = 36
 
 -- of a table that is refused
 abbrev pub fault_status : RouteFault → ℕ
@@ -33,6 +44,9 @@ fault_status (fault.Delete i) = 15
 fault_status (fault.Prefix i) = 16
 fault_status (fault.NothingToKey i) = 17
 fault_status (fault.Twice i) = 18
+fault_status fault.PlanAndNumber = 29
+fault_status fault.TooManyNumbers = 30
+fault_status (fault.Number i broken) = number_status broken
 
 -- of what is not heard on a line
 abbrev pub not_heard_status : NotHeard → ℕ
@@ -56,7 +70,7 @@ abbrev pub print_status : PrintFault → ℕ
 print_status print.Room = 7
 print_status print.Marks = 24
 
--- the limit or the route that a fault names
+-- the limit, the route or the entry of numbers that a fault names
 abbrev pub fault_place : RouteFault → ℕ
 fault_place fault.NoMemory = 0
 fault_place fault.NotToml = 0
@@ -70,3 +84,6 @@ fault_place (fault.Delete i) = i
 fault_place (fault.Prefix i) = i
 fault_place (fault.NothingToKey i) = i
 fault_place (fault.Twice i) = i
+fault_place fault.PlanAndNumber = 0
+fault_place fault.TooManyNumbers = 0
+fault_place (fault.Number i broken) = i

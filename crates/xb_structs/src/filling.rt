@@ -9,7 +9,7 @@ ghost use Rattle.xb_structs.specs.Tables.{Holds};
 
 use crate::reading::put_routes;
 use crate::route::{PlainRoute, plain_route};
-use crate::table::{PlainTable, routes_of};
+use crate::table::{PlainTable, plan_of, routes_of};
 use arrayvec::ArrayVec;
 use xb_model::{Limits, Plan};
 use xb_routes::{MOST_ROUTES, RouteFault, RouteWords, entry_of, limits_by};
@@ -57,7 +57,7 @@ pub fn add(table: &mut PlainTable, i: u32, words: RouteWords<'_>) -> Result<(), 
     ensures refused { IfErr result (λ f. IsNotAdded f table.old i (keys_in words.entry)) }
     ensures kept { OnErr result (table.new ≡ table.old) }
 {
-    let Some(plan) = Plan::of_digits(table.plan) else {
+    let Some(plan) = plan_of(table) else {
         return Err(RouteFault::Plan);
     };
     let Some(routes) = routes_of(table) else {

@@ -19,12 +19,18 @@ ghost use Rattle.xb_routes.specs.Table.{Table};
 ghost use Rattle.xb_routes.specs.Text.{routes_from, table_by};
 ghost use Rattle.xb_structs.specs.declared.line.PlainLine.{PlainLine};
 ghost use Rattle.xb_structs.specs.declared.mark.PlainMark.{PlainMark};
+ghost use Rattle.xb_structs.specs.declared.table.TheConstants.{PLAN_OF_LENGTHS};
 ghost use Rattle.xb_structs.specs.Entrances.{EntrancesAgree};
 ghost use Rattle.xb_structs.specs.EntryLines.{MayBeEntry, line_in, tape_in};
 ghost use Rattle.xb_structs.specs.Filling.{filled};
 ghost use Rattle.xb_structs.specs.Marks.{plain_mark};
 ghost use Rattle.xb_structs.specs.Promises.{KeepPromises};
 ghost use Rattle.xb_structs.specs.Taking.{HasTaken};
+
+/// The number in a table that says that its lengths count, as it is.
+pub fn constants()
+    ensures { PLAN_OF_LENGTHS ≡ 1 }
+{}
 
 /// Where all rows that a line has taken are of one line, its marks keep the promises of a live office:
 /// nothing is taken back, nothing is missing, and nothing is of another line.

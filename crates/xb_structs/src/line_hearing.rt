@@ -8,6 +8,7 @@ ghost use Rattle.xb_serial.specs.Entrances.{marks_of_signal};
 ghost use Rattle.xb_structs.specs.Hearing.{Hears, HearsSignal, IsNotHeard, is_closed, is_fit, is_seized};
 ghost use Rattle.xb_structs.specs.Lines.{pulse_in, register_in};
 ghost use Rattle.xb_structs.specs.Routes.{AreRoutes};
+ghost use Rattle.xb_structs.specs.Tables.{plan_by};
 
 use crate::entry::{NoRoom, give};
 use crate::heard_signal::{HeardSignal, signal_of};
@@ -16,8 +17,8 @@ use crate::mark::PlainMark;
 use crate::not_heard::NotHeard;
 use crate::route::PlainRoute;
 use crate::row::line_of;
-use crate::table::{PlainTable, parts_of};
-use xb_model::{LineNo, Plan, Signal};
+use crate::table::{PlainTable, TablePlan, parts_of};
+use xb_model::{LineNo, Signal};
 use xb_register::Register;
 
 // The phases by which plain values say that a line is closed, and that no attempt has begun.
@@ -55,7 +56,7 @@ fn is_fit(line: &PlainLine, heard: HeardSignal) -> Result<(), NotHeard>
 
 // Takes a signal by the parts of a table.
 fn hear_signal(
-    plan: Plan,
+    plan: TablePlan<'_>,
     routes: &[PlainRoute],
     line: &mut PlainLine,
     number: LineNo,
@@ -64,16 +65,16 @@ fn hear_signal(
 ) -> Result<usize, NoRoom>
     ensures hears { IfOk result (λ count. (all : List CodedRoute) (limits : TableLimits) →
         AreRoutes routes.now all →
-        HearsSignal (table_by all plan limits) number line.old line.new signal room.new count) }
+        HearsSignal (table_by all (plan_by plan.entry) limits) number line.old line.new signal room.new count) }
     ensures few { IfOk result (λ count. count ≤ length room.new) }
     ensures enough { IfErr result (λ _. length room.old < MOST_OUTPUTS) }
     ensures refused { IfErr result (λ _. (all : List CodedRoute) (limits : TableLimits) →
         AreRoutes routes.now all → length room.old
-        < length (marks_of_signal (table_by all plan limits) (register_in line.old.register) signal)) }
+        < length (marks_of_signal (table_by all (plan_by plan.entry) limits) (register_in line.old.register) signal)) }
     ensures kept { OnErr result ((line.new ≡ line.old) × (room.new ≡ room.old)) }
 {
     let mut register = register_of(&line.register);
-    let outcome = Register::new(plan).take(&mut register, signal);
+    let outcome = Register::new(plan.whole()).take(&mut register, signal);
     let mut heard = *line;
     heard.register = register_part(&register);
     give(routes, number, outcome, heard, line, room)

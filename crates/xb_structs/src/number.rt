@@ -40,7 +40,7 @@ fn number_of_bytes(plan: Plan, bytes: &[u8]) -> Result<NumberDigits, NotRouted>
             return Err(NotRouted::Digit);
         };
         number.push(digit);
-        if is_reached(plan, number.digits()) {
+        if is_reached(&plan, number.digits()) {
             return Ok(number);
         }
     }
@@ -84,6 +84,6 @@ pub fn route_number(
     let Some(parts) = parts_of(table) else {
         return Err(NotRouted::NotOpened);
     };
-    let number = number_of_bytes(parts.plan, digits)?;
+    let number = number_of_bytes(parts.plan.whole(), digits)?;
     put_keying(parts.routes, number, room)
 }

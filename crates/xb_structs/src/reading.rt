@@ -10,7 +10,7 @@ ghost use Rattle.xb_structs.specs.Opening.{numbered_with};
 ghost use Rattle.xb_structs.specs.Tables.{Holds};
 
 use crate::route::{PlainRoute, plain_route};
-use crate::table::{PlainTable, plan_number};
+use crate::table::{PlainTable, lengths_beside, plan_number};
 use std::alloc::{AllocError, Global};
 use xb_routes::{Entry, MOST_ROUTES, RouteFault, RouteTable};
 
@@ -69,7 +69,9 @@ pub fn open(alloc: Global, text: &[u8], table: &mut PlainTable) -> Result<(), Ro
     }
     put_routes(&routes, &mut table.routes);
     let limits = read.limits();
-    table.plan = plan_number(read.plan());
+    let plan = read.plan();
+    table.lengths = lengths_beside(plan, table.lengths);
+    table.plan = plan_number(plan);
     table.limits = limits;
     table.count = routes.len() as u32;
     Ok(())

@@ -7,7 +7,7 @@ use crate::not_heard::NotHeard;
 use crate::number::NotRouted;
 use crate::printing::PrintFault;
 use crate::refusal::Refusal;
-use xb_routes::RouteFault;
+use xb_routes::{NumberFault, RouteFault};
 
 /// All was done.
 pub const DONE: u32 = 0;
@@ -44,6 +44,14 @@ pub fn fault_status(fault: RouteFault) -> u32
         RouteFault::Prefix(_) => 16,
         RouteFault::NothingToKey(_) => 17,
         RouteFault::Twice(_) => 18,
+        RouteFault::PlanAndNumber => 29,
+        RouteFault::TooManyNumbers => 30,
+        RouteFault::Number(_, NumberFault::Shape) => 31,
+        RouteFault::Number(_, NumberFault::Begins) => 32,
+        RouteFault::Number(_, NumberFault::Digits) => 33,
+        RouteFault::Number(_, NumberFault::Short) => 34,
+        RouteFault::Number(_, NumberFault::Twice) => 35,
+        RouteFault::Number(_, NumberFault::Outgrown) => 36,
     }
 }
 
@@ -87,12 +95,17 @@ pub fn print_status(fault: PrintFault) -> u32
     }
 }
 
-/// The limit or the route that a fault of a route table names; 0 where it names none.
+/// The limit, the route or the entry of numbers that a fault of a route table names; 0 where it names none.
 pub fn fault_place(fault: RouteFault) -> u32
     ensures { result ≡ fault_place fault }
 {
     match fault {
-        RouteFault::NoMemory | RouteFault::NotToml | RouteFault::Plan | RouteFault::TooMany => 0,
+        RouteFault::NoMemory
+        | RouteFault::NotToml
+        | RouteFault::Plan
+        | RouteFault::TooMany
+        | RouteFault::PlanAndNumber
+        | RouteFault::TooManyNumbers => 0,
         RouteFault::Limits(limit) => limit,
         RouteFault::Shape(route)
         | RouteFault::Code(route)
@@ -101,5 +114,6 @@ pub fn fault_place(fault: RouteFault) -> u32
         | RouteFault::Prefix(route)
         | RouteFault::NothingToKey(route)
         | RouteFault::Twice(route) => route,
+        RouteFault::Number(number, _) => number,
     }
 }

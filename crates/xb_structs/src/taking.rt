@@ -9,6 +9,7 @@ ghost use Rattle.xb_serial.specs.Chain.{marks_of_row, outcomes_of_row, state_aft
 ghost use Rattle.xb_structs.specs.declared.refusal.Refusal.TheVariants.{Room};
 ghost use Rattle.xb_structs.specs.Lines.{state_in};
 ghost use Rattle.xb_structs.specs.Routes.{AreRoutes};
+ghost use Rattle.xb_structs.specs.Tables.{plan_by};
 ghost use Rattle.xb_structs.specs.Taking.{IsRefused, Takes, TakesRow};
 
 use crate::entry::{NoRoom, give};
@@ -17,17 +18,23 @@ use crate::mark::PlainMark;
 use crate::refusal::Refusal;
 use crate::route::PlainRoute;
 use crate::row::{PlainRow, row_of};
-use crate::table::{PlainTable, parts_of};
-use xb_model::{Dialled, Limits, Plan, Row};
+use crate::table::{PlainTable, TablePlan, parts_of};
+use xb_model::{Dialled, Limits, Row};
 use xb_pulse::Pulse;
 use xb_register::Register;
 use xb_serial::outcome_of;
 
 // What comes of an attempt by a row, if it does, and what is known of the line after it.
-fn hear(plan: Plan, limits: Limits, line: &PlainLine, row: Row) -> (Option<Dialled>, PlainLine)
+fn hear(
+    plan: TablePlan<'_>,
+    limits: Limits,
+    line: &PlainLine,
+    row: Row,
+) -> (Option<Dialled>, PlainLine)
     ensures outcome { on_line row.line (option_to_list result.0)
-        ≡ outcomes_of_row (table_by [] plan limits) (state_in line.now) row }
-    ensures state { state_in result.1 ≡ state_after_row (table_by [] plan limits) (state_in line.now) row }
+        ≡ outcomes_of_row (table_by [] (plan_by plan.entry) limits) (state_in line.now) row }
+    ensures state { state_in result.1
+        ≡ state_after_row (table_by [] (plan_by plan.entry) limits) (state_in line.now) row }
     ensures entries { result.1.entries ≡ line.now.entries }
 {
     let mut heard = *line;
@@ -38,14 +45,14 @@ fn hear(plan: Plan, limits: Limits, line: &PlainLine, row: Row) -> (Option<Diall
         return (None, heard);
     }
     let mut register = register_of(&line.register);
-    let outcome = outcome_of(&Register::new(plan), &mut register, &signals);
+    let outcome = outcome_of(&Register::new(plan.whole()), &mut register, &signals);
     heard.register = register_part(&register);
     (outcome, heard)
 }
 
 // Takes a row by the parts of a table.
 fn take_row(
-    plan: Plan,
+    plan: TablePlan<'_>,
     limits: Limits,
     routes: &[PlainRoute],
     line: &mut PlainLine,
@@ -53,11 +60,12 @@ fn take_row(
     room: &mut [PlainMark],
 ) -> Result<usize, Refusal>
     ensures takes { IfOk result (λ count. (all : List CodedRoute) → AreRoutes routes.now all →
-        TakesRow (table_by all plan limits) line.old line.new row room.new count) }
+        TakesRow (table_by all (plan_by plan.entry) limits) line.old line.new row room.new count) }
     ensures few { IfOk result (λ count. count ≤ length room.new) }
     ensures refused { IfErr result (λ f. (f ≡ Room) × (length room.old < MOST_OUTPUTS)
         × ((all : List CodedRoute) → AreRoutes routes.now all →
-        length room.old < length (marks_of_row (table_by all plan limits) (state_in line.old) row))) }
+        length room.old
+        < length (marks_of_row (table_by all (plan_by plan.entry) limits) (state_in line.old) row))) }
     ensures kept { OnErr result ((line.new ≡ line.old) × (room.new ≡ room.old)) }
 {
     let (outcome, heard) = hear(plan, limits, line, row);

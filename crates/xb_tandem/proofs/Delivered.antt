@@ -1,5 +1,5 @@
 -- What is written by a table, where a file has one.
-use Rattle.std.proofs.Common.{◌≡◌, ℕ, List, Option, Some, None, Result, Ok, Err, inl, inr, subst}
+use Rattle.std.proofs.Common.{◌≡◌, ℕ, Bool, List, Option, Some, None, Result, Ok, Err, inl, inr, subst}
 use Rattle.std.specs.Prelude.{IfErr, IfSome}
 use Rattle.xb_command.specs.Files.{Bytes}
 use Rattle.xb_outgoing.specs.Files.{HasTable}
@@ -14,12 +14,12 @@ use Rattle.xb_tandem.specs.Relaying.{Delivers, IsOfKeys, Relays, TakesBy, Writes
 use Rattle.xb_tandem.specs.Faults.{of_table}
 use Rattle.std.proofs.KnownBytes.{Keeps-refl}
 
-page-of : (office : Office) (limit : ℕ) (input : Option (List ℕ)) (result : Result ℕ TandemFault)
-    (old new : Option (List ℕ)) → office.register.timeout_ms ≡ limit → Relays office input result old new
-    → IfSome input (λ text. WritesPage office.form office.line limit office.table text result old new)
-page-of office limit None result old new waits page = tt
-page-of office limit (Some text) result old new waits page =
-    subst (λ ms. WritesPage office.form office.line ms office.table text result old new) waits page
+page-of : (office : Office) (limit : ℕ) (trusts : Bool) (input : Option (List ℕ)) (result : Result ℕ TandemFault)
+    (old new : Option (List ℕ)) → office.register.timeout_ms ≡ limit → Relays office trusts input result old new
+    → IfSome input (λ text. WritesPage office.form office.line limit trusts office.table text result old new)
+page-of office limit trusts None result old new waits page = tt
+page-of office limit trusts (Some text) result old new waits page =
+    subst (λ ms. WritesPage office.form office.line ms trusts office.table text result old new) waits page
 
 by : (bytes : Bytes) (name : List ℕ) (request : Request) (input : Option (List ℕ)) (result : Result ℕ TandemFault)
     (old new : Option (List ℕ)) → IfErr result IsOfKeys → TakesBy bytes name request input result old new
@@ -36,14 +36,14 @@ by bytes name request input (Err fault.Write) old new kind takes = takes
 pub delivers-by : (bytes : Bytes) (name : List ℕ) (request : Request) (office : Office) (input : Option (List ℕ))
     (result : Result ℕ TandemFault) (old new : Option (List ℕ)) → HasTable bytes name office.table
     → office.form ≡ request.form → office.line ≡ request.line → office.register.timeout_ms ≡ request.timeout_ms
-    → IfErr result IsOfKeys → Relays office input result old new → Delivers bytes name request input result old new
+    → IfErr result IsOfKeys → Relays office request.trusts input result old new → Delivers bytes name request input result old new
 delivers-by bytes name request office input result old new has form line waits kind page =
     by bytes name request input result old new kind (record {
       table = office.table;
       is_read = has;
-      page = subst (λ f. IfSome input (λ text. WritesPage f request.line request.timeout_ms office.table text result old new)) form
-          (subst (λ l. IfSome input (λ text. WritesPage office.form l request.timeout_ms office.table text result old new)) line
-          (page-of office request.timeout_ms input result old new waits page));
+      page = subst (λ f. IfSome input (λ text. WritesPage f request.line request.timeout_ms request.trusts office.table text result old new)) form
+          (subst (λ l. IfSome input (λ text. WritesPage office.form l request.timeout_ms request.trusts office.table text result old new)) line
+          (page-of office request.timeout_ms request.trusts input result old new waits page));
     })
 
 -- the file has no table

@@ -9,7 +9,6 @@ use Rattle.xb_calls.specs.Heard.{AreDialled}
 use Rattle.xb_calls.specs.Speeds.{ten_pulses_a_second}
 use Rattle.xb_calls.proofs.HeardNumbers.{dialled_is_heard}
 use Rattle.xb_calls.proofs.RowsOfLines.{on-line}
-use Rattle.xb_incoming.specs.Attempts.{outcomes as outcomes_of_keys}
 use Rattle.xb_model.specs.declared.dialled.Dialled.{Dialled}
 use Rattle.xb_model.specs.declared.dialled.Dialled.TheVariants as outcomes
 use Rattle.xb_model.specs.declared.line.TheConstants.{LINES}
@@ -21,7 +20,8 @@ use Rattle.xb_outgoing.specs.Tables.{Outgoing, is_dialled, outgoing_order, refus
 use Rattle.xb_model.specs.Lines.{row_line}
 use Rattle.xb_model.specs.Records.{rows_of}
 use Rattle.xb_model.proofs.Lines.{of_line-all, of_line-none}
-use Rattle.xb_tandem.specs.Entries.{PulsesAreHeard, calls_on, dialled_numbers, orders_of, rows_of_numbers, sent_of}
+use Rattle.xb_tandem.specs.Entries.{PulsesAreHeard, calls_of, calls_on, dialled_numbers, rows_of_numbers, sent_of}
+use Rattle.xb_tandem.specs.Signs.{Told, told_in_all}
 
 -- the numbers of the calls of a line
 numbers-own : (line : ℕ) (numbers : List (List ℕ)) → eqb line line ≡ true → numbers_on line (calls_on line numbers) ≡ numbers
@@ -74,21 +74,21 @@ order-digits : (table : Outgoing) (outcome : Dialled) → HasDigits table.pulsed
 order-digits table (outcomes.Number number) = unless-refused table.pulsed (length number) (routed table.table.routes number)
 order-digits table (outcomes.Refused reason heard) = λ goes. absurd (false-not-true goes)
 
-some-digits : (table : Outgoing) (found : List Dialled)
-    → AllByRecursion (λ number. number ≢ []) (dialled_numbers table.pulsed (orders_of table found))
+some-digits : (table : Outgoing) (found : List Told)
+    → AllByRecursion (λ number. number ≢ []) (dialled_numbers table.pulsed (calls_of table found))
 some-digits table [] = tt
-some-digits table (outcome ∷ found) = at (some-digits table found) (is_dialled table.pulsed (outgoing_order table outcome)) refl
+some-digits table (told ∷ found) = at (some-digits table found) (is_dialled table.pulsed (outgoing_order table told.outcome)) refl
   where
-    at : AllByRecursion (λ number. number ≢ []) (dialled_numbers table.pulsed (orders_of table found))
-        → (goes : Bool) → is_dialled table.pulsed (outgoing_order table outcome) ≡ goes
-        → AllByRecursion (λ number. number ≢ []) (dialled_numbers table.pulsed (orders_of table (outcome ∷ found)))
-    at later true e = rw e (order-digits table outcome e, later)
+    at : AllByRecursion (λ number. number ≢ []) (dialled_numbers table.pulsed (calls_of table found))
+        → (goes : Bool) → is_dialled table.pulsed (outgoing_order table told.outcome) ≡ goes
+        → AllByRecursion (λ number. number ≢ []) (dialled_numbers table.pulsed (calls_of table (told ∷ found)))
+    at later true e = rw e (order-digits table told.outcome e, later)
     at later false e = rw e later
 
 pub pulses_are_heard : PulsesAreHeard
 pulses_are_heard = record {
-  text = λ line limit table keys. append-nil _;
-  some_digits = λ limit table keys. some-digits table (outcomes_of_keys limit keys);
+  text = λ line limit table signs. append-nil _;
+  some_digits = λ limit table signs. some-digits table (told_in_all limit signs);
   dialled = dialled;
   heard = λ line numbers below digits.
       dialled_is_heard ten_pulses_a_second (calls_on line numbers) (rows_of_numbers line numbers)

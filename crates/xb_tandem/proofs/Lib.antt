@@ -3,9 +3,11 @@ pub mod KeyLines
 pub mod Reading
 pub mod ObjectValues
 pub mod OneCall
-pub mod ToldOrders
+pub mod ToldCalls
 pub mod ToldFirst
 pub mod Heard
+pub mod SignsTold
+pub mod Undoubted
 pub mod Written
 pub mod Relayed
 pub mod Taken

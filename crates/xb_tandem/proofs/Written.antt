@@ -1,30 +1,28 @@
 -- What an office has written, and what it then writes.
-use Rattle.std.proofs.Common.{◌≡◌, ◌∙◌, ℕ, ◌+◌, Bool, true, false, List, [], ◌∷◌, ◌++◌, length, Option, Some, None, ap, ap₂, refl, sym, subst, arith, append-nil, length-append}
+use Rattle.std.proofs.Common.{◌≡◌, ◌∙◌, ℕ, ◌+◌, Bool, true, false, List, [], ◌∷◌, ◌++◌, length, Option, ap, ap₂, refl, sym, subst, arith, length-append}
 use Rattle.std.specs.Prelude.{count_by, if◌then◌else◌, not}
 use Rattle.std.specs.Io.KnownBytes.{Appends}
-use Rattle.std.specs.Option.{option_to_list}
 use Rattle.std.proofs.KnownBytes.{Appends-nil, Appends-trans}
-use Rattle.std.proofs.lemmas.List.{map-append}
 use Rattle.std.proofs.lemmas.List.Sums.{sum_by-append, sum_by-cons}
 use Rattle.xb_incoming.specs.declared.key.TimedKey.{TimedKey}
 use Rattle.xb_incoming.specs.declared.register.Register.{Register}
 use Rattle.xb_incoming.specs.Machine.{HasTaken, told_by}
 use Rattle.xb_model.specs.declared.dialled.Dialled.{Dialled}
-use Rattle.xb_model.specs.declared.order.Order.{Order}
-use Rattle.xb_outgoing.specs.Tables.{Outgoing, is_dialled, outgoing_order}
+use Rattle.xb_outgoing.specs.Tables.{Outgoing}
 use Rattle.xb_text.specs.Writing.{AppendsBeginning}
 use Rattle.xb_text.proofs.Beginnings.{AppendsBeginning-second}
+use Rattle.xb_tandem.specs.declared.call.Call.{Call}
 use Rattle.xb_tandem.specs.declared.office.Office.{Office}
 use Rattle.xb_tandem.specs.declared.request.Form.{Form}
 use Rattle.xb_tandem.specs.declared.request.Form.TheVariants as forms
-use Rattle.xb_tandem.specs.Entries.{dialled_numbers, is_keying, is_refusal, keyed_in, left_out, on_page, order_line, orders_of, refused_in, told_orders}
+use Rattle.xb_tandem.specs.Entries.{call_line, dialled_numbers, goes_dialled, is_keying, is_refusal, keyed_in, left_out, on_page, refused_in, told_calls}
 use Rattle.xb_tandem.specs.Written.{CountsOne, HasTold, IsWithCounts, left_by, left_of}
-use Rattle.xb_tandem.proofs.ToldOrders.{numbers-append, numbers-none, numbers-one, page-append, page-none, page-one, told-order}
+use Rattle.xb_tandem.proofs.ToldCalls.{numbers-append, numbers-none, numbers-one, page-append, page-none, page-one, told-call}
 
 pub none-written : (old : Option (List ℕ)) (bytes : List ℕ) → AppendsBeginning old old bytes
 none-written old bytes = (0, Appends-nil old)
 
--- an order is dialled, keyed or refused
+-- a call is dialled, keyed or refused
 abbrev one : Bool → ℕ
 one refused = if refused then 1 else 0
 
@@ -48,142 +46,126 @@ kept-one : (refused : Bool) → none refused ≡ kept refused
 kept-one true = refl
 kept-one false = refl
 
--- the counts of one order
-record OneCounts (pulsed : List ℕ) (order : Order) : Type 0 where
-  entries : none_if (is_dialled pulsed order) (is_refusal order) + one_if (is_dialled pulsed order) (is_refusal order)
-      ≡ length (on_page pulsed (order ∷ []))
-  keyed : none_if (is_dialled pulsed order) (is_refusal order) ≡ keyed_in pulsed (order ∷ [])
-  refused : one_if (is_dialled pulsed order) (is_refusal order) ≡ refused_in pulsed (order ∷ [])
-  dialled : (if is_dialled pulsed order then 1 else 0) ≡ length (dialled_numbers pulsed (order ∷ []))
+-- the counts of one call
+record OneCounts (pulsed : List ℕ) (call : Call) : Type 0 where
+  entries : none_if (goes_dialled pulsed call) (is_refusal call) + one_if (goes_dialled pulsed call) (is_refusal call)
+      ≡ length (on_page pulsed (call ∷ []))
+  keyed : none_if (goes_dialled pulsed call) (is_refusal call) ≡ keyed_in pulsed (call ∷ [])
+  refused : one_if (goes_dialled pulsed call) (is_refusal call) ≡ refused_in pulsed (call ∷ [])
+  dialled : (if goes_dialled pulsed call then 1 else 0) ≡ length (dialled_numbers pulsed (call ∷ []))
 
-counts-of-one : (test : Order → Bool) (order : Order) → count_by test (order ∷ []) ≡ one (test order)
-counts-of-one test order = sum_by-cons (λ o. one (test o)) order [] ∙ at (test order)
+counts-of-one : (test : Call → Bool) (call : Call) → count_by test (call ∷ []) ≡ one (test call)
+counts-of-one test call = sum_by-cons (λ o. one (test o)) call [] ∙ at (test call)
   where
     at : (is : Bool) → one is + 0 ≡ one is
     at true = refl
     at false = refl
 
-counts-of-none : (test : Order → Bool) → 0 ≡ count_by test []
+counts-of-none : (test : Call → Bool) → 0 ≡ count_by test []
 counts-of-none test = refl
 
-one-counts : (pulsed : List ℕ) (order : Order) → OneCounts pulsed order
-one-counts pulsed order = at (is_dialled pulsed order) refl
+one-counts : (pulsed : List ℕ) (call : Call) → OneCounts pulsed call
+one-counts pulsed call = at (goes_dialled pulsed call) refl
   where
-    at : (d : Bool) → is_dialled pulsed order ≡ d → OneCounts pulsed order
+    at : (d : Bool) → goes_dialled pulsed call ≡ d → OneCounts pulsed call
     at true e = record {
-      entries = rw e refl ∙ ap length (sym (page-none pulsed order e));
-      keyed = rw e refl ∙ counts-of-none is_keying ∙ ap (count_by is_keying) (sym (page-none pulsed order e));
-      refused = rw e refl ∙ counts-of-none is_refusal ∙ ap (count_by is_refusal) (sym (page-none pulsed order e));
-      dialled = rw e refl ∙ ap length (sym (numbers-one pulsed order e));
+      entries = rw e refl ∙ ap length (sym (page-none pulsed call e));
+      keyed = rw e refl ∙ counts-of-none is_keying ∙ ap (count_by is_keying) (sym (page-none pulsed call e));
+      refused = rw e refl ∙ counts-of-none is_refusal ∙ ap (count_by is_refusal) (sym (page-none pulsed call e));
+      dialled = rw e refl ∙ ap length (sym (numbers-one pulsed call e));
     }
     at false e = record {
-      entries = rw e (sum-one (is_refusal order)) ∙ ap length (sym (page-one pulsed order e));
-      keyed = rw e (kept-one (is_refusal order)) ∙ sym (counts-of-one is_keying order)
-          ∙ ap (count_by is_keying) (sym (page-one pulsed order e));
-      refused = rw e refl ∙ sym (counts-of-one is_refusal order)
-          ∙ ap (count_by is_refusal) (sym (page-one pulsed order e));
-      dialled = rw e refl ∙ ap length (sym (numbers-none pulsed order e));
+      entries = rw e (sum-one (is_refusal call)) ∙ ap length (sym (page-one pulsed call e));
+      keyed = rw e (kept-one (is_refusal call)) ∙ sym (counts-of-one is_keying call)
+          ∙ ap (count_by is_keying) (sym (page-one pulsed call e));
+      refused = rw e refl ∙ sym (counts-of-one is_refusal call)
+          ∙ ap (count_by is_refusal) (sym (page-one pulsed call e));
+      dialled = rw e refl ∙ ap length (sym (numbers-none pulsed call e));
     }
 
--- counts of orders, and of one more
-counts-more : (test : Order → Bool) (pulsed : List ℕ) (orders : List Order) (order : Order)
-    → count_by test (on_page pulsed (orders ++ order ∷ []))
-    ≡ count_by test (on_page pulsed orders) + count_by test (on_page pulsed (order ∷ []))
-counts-more test pulsed orders order =
-    ap (count_by test) (page-append pulsed orders (order ∷ []))
-    ∙ sum_by-append (λ o. if test o then 1 else 0) (on_page pulsed orders) (on_page pulsed (order ∷ []))
+-- counts of calls, and of one more
+counts-more : (test : Call → Bool) (pulsed : List ℕ) (calls : List Call) (call : Call)
+    → count_by test (on_page pulsed (calls ++ call ∷ []))
+    ≡ count_by test (on_page pulsed calls) + count_by test (on_page pulsed (call ∷ []))
+counts-more test pulsed calls call =
+    ap (count_by test) (page-append pulsed calls (call ∷ []))
+    ∙ sum_by-append (λ o. if test o then 1 else 0) (on_page pulsed calls) (on_page pulsed (call ∷ []))
 
-module _ (old new : Office) (orders : List Order) (order : Order) (start mid : Option (List ℕ))
-    (told : HasTold old orders start mid) where
+module _ (old new : Office) (calls : List Call) (call : Call) (start mid : Option (List ℕ))
+    (told : HasTold old calls start mid) where
   abbrev told-line : List ℕ
-  told-line = order_line old.form old.line old.table.pulsed (old.keyed + old.refused) old.dialled order
+  told-line = call_line old.form old.line old.table.pulsed (old.keyed + old.refused) old.dialled call
 
   abbrev told-before : List ℕ
-  told-before = told_orders old.form old.line old.table.pulsed orders
+  told-before = told_calls old.form old.line old.table.pulsed calls
 
-  told-now : told-before ++ told-line ≡ told_orders old.form old.line old.table.pulsed (orders ++ order ∷ [])
-  told-now = sym (told-order old.line old.table.pulsed orders order (old.keyed + old.refused) old.dialled told.number told.dialled
+  told-now : told-before ++ told-line ≡ told_calls old.form old.line old.table.pulsed (calls ++ call ∷ [])
+  told-now = sym (told-call old.line old.table.pulsed calls call (old.keyed + old.refused) old.dialled told.number told.dialled
       old.form)
 
-  more-counts : IsWithCounts old new → CountsOne old new order → (out : Option (List ℕ))
-      → Appends start out (told_orders old.form old.line old.table.pulsed (orders ++ order ∷ []))
-      → HasTold (record old { keyed = new.keyed; refused = new.refused; dialled = new.dialled }) (orders ++ order ∷ []) start out
+  more-counts : IsWithCounts old new → CountsOne old new call → (out : Option (List ℕ))
+      → Appends start out (told_calls old.form old.line old.table.pulsed (calls ++ call ∷ []))
+      → HasTold (record old { keyed = new.keyed; refused = new.refused; dialled = new.dialled }) (calls ++ call ∷ []) start out
   more-counts same counts out wrote =
-      let one = one-counts old.table.pulsed order in
-      let entries = ap length (page-append old.table.pulsed orders (order ∷ []))
-      ∙ length-append (on_page old.table.pulsed orders) (on_page old.table.pulsed (order ∷ [])) in
-      let numbers = ap length (numbers-append old.table.pulsed orders (order ∷ []))
-      ∙ length-append (dialled_numbers old.table.pulsed orders) (dialled_numbers old.table.pulsed (order ∷ [])) in
+      let one = one-counts old.table.pulsed call in
+      let entries = ap length (page-append old.table.pulsed calls (call ∷ []))
+      ∙ length-append (on_page old.table.pulsed calls) (on_page old.table.pulsed (call ∷ [])) in
+      let numbers = ap length (numbers-append old.table.pulsed calls (call ∷ []))
+      ∙ length-append (dialled_numbers old.table.pulsed calls) (dialled_numbers old.table.pulsed (call ∷ [])) in
       record {
         number = omega (arith, counts.keyed, counts.refused, told.number, one.entries, entries);
         keyed = counts.keyed ∙ ap₂ (λ a b. a + b) told.keyed one.keyed
-            ∙ sym (counts-more is_keying old.table.pulsed orders order);
+            ∙ sym (counts-more is_keying old.table.pulsed calls call);
         refused = counts.refused ∙ ap₂ (λ a b. a + b) told.refused one.refused
-            ∙ sym (counts-more is_refusal old.table.pulsed orders order);
+            ∙ sym (counts-more is_refusal old.table.pulsed calls call);
         dialled = counts.dialled ∙ ap₂ (λ a b. a + b) told.dialled one.dialled ∙ sym numbers;
         text = wrote;
       }
 
-  -- one order more was told, and is counted
-  pub told-more : (out : Option (List ℕ)) → IsWithCounts old new → CountsOne old new order → Appends mid out told-line
-      → HasTold new (orders ++ order ∷ []) start out
+  -- one call more was told, and is counted
+  pub told-more : (out : Option (List ℕ)) → IsWithCounts old new → CountsOne old new call → Appends mid out told-line
+      → HasTold new (calls ++ call ∷ []) start out
   told-more out same counts wrote =
       let more = more-counts same counts out
       (subst (Appends start out) told-now (Appends-trans start mid out told-before told-line told.text wrote)) in
       let pulsed = ap (λ (t : Outgoing). t.pulsed) (sym same.table) in
       record {
-        number = more.number ∙ ap (λ p. length (on_page p (orders ++ order ∷ []))) pulsed;
-        keyed = more.keyed ∙ ap (λ p. keyed_in p (orders ++ order ∷ [])) pulsed;
-        refused = more.refused ∙ ap (λ p. refused_in p (orders ++ order ∷ [])) pulsed;
-        dialled = more.dialled ∙ ap (λ p. length (dialled_numbers p (orders ++ order ∷ []))) pulsed;
+        number = more.number ∙ ap (λ p. length (on_page p (calls ++ call ∷ []))) pulsed;
+        keyed = more.keyed ∙ ap (λ p. keyed_in p (calls ++ call ∷ [])) pulsed;
+        refused = more.refused ∙ ap (λ p. refused_in p (calls ++ call ∷ [])) pulsed;
+        dialled = more.dialled ∙ ap (λ p. length (dialled_numbers p (calls ++ call ∷ []))) pulsed;
         text =
             subst (Appends start out)
-            (ap₂ (λ form line. told_orders form line old.table.pulsed (orders ++ order ∷ [])) (sym same.form) (sym same.line)
-            ∙ ap (λ p. told_orders new.form new.line p (orders ++ order ∷ [])) pulsed)
+            (ap₂ (λ form line. told_calls form line old.table.pulsed (calls ++ call ∷ [])) (sym same.form) (sym same.line)
+            ∙ ap (λ p. told_calls new.form new.line p (calls ++ call ∷ [])) pulsed)
             more.text;
       }
 
   -- or it was begun
   pub told-begun : (out : Option (List ℕ)) → AppendsBeginning mid out told-line
-      → AppendsBeginning start out (told_orders old.form old.line old.table.pulsed (orders ++ order ∷ []))
+      → AppendsBeginning start out (told_calls old.form old.line old.table.pulsed (calls ++ call ∷ []))
   told-begun out wrote =
       subst (AppendsBeginning start out) told-now
       (AppendsBeginning-second start mid out told-before told-line told.text wrote)
 
 -- all of what there is was written, which is the beginning of what comes
-pub told-first : (office : Office) (orders : List Order) (start out : Option (List ℕ)) → HasTold office orders start out
-    → (rest : List ℕ) → AppendsBeginning start out (told_orders office.form office.line office.table.pulsed orders ++ rest)
-told-first office orders start out told rest =
-    AppendsBeginning-second start out out (told_orders office.form office.line office.table.pulsed orders) rest told.text (none-written out rest)
+pub told-first : (office : Office) (calls : List Call) (start out : Option (List ℕ)) → HasTold office calls start out
+    → (rest : List ℕ) → AppendsBeginning start out (told_calls office.form office.line office.table.pulsed calls ++ rest)
+told-first office calls start out told rest =
+    AppendsBeginning-second start out out (told_calls office.form office.line office.table.pulsed calls) rest told.text (none-written out rest)
 
 -- what is not in what was written
-left-by : (form : Form) (pulsed : List ℕ) (orders : List Order) (entries before : ℕ)
-    → entries ≡ length (on_page pulsed orders) → before ≡ length (dialled_numbers pulsed orders)
-    → left_by form entries before ≡ left_out form pulsed orders
-left-by forms.Page pulsed orders entries before numbered counted = counted
-left-by forms.Json pulsed orders entries before numbered counted = refl
-left-by forms.Rows pulsed orders entries before numbered counted = numbered
+left-by : (form : Form) (pulsed : List ℕ) (calls : List Call) (entries before : ℕ)
+    → entries ≡ length (on_page pulsed calls) → before ≡ length (dialled_numbers pulsed calls)
+    → left_by form entries before ≡ left_out form pulsed calls
+left-by forms.Page pulsed calls entries before numbered counted = counted
+left-by forms.Json pulsed calls entries before numbered counted = refl
+left-by forms.Rows pulsed calls entries before numbered counted = numbered
 
-pub left-told : (office : Office) (orders : List Order) (start out : Option (List ℕ)) → HasTold office orders start out
-    → left_of office ≡ left_out office.form office.table.pulsed orders
-left-told office orders start out told =
-    left-by office.form office.table.pulsed orders (office.keyed + office.refused) office.dialled told.number told.dialled
-
--- what is told with a key, as orders
-orders-more : (table : Outgoing) (told : List Dialled) (outcome : Option Dialled) (all : List Dialled)
-    → told ++ option_to_list outcome ≡ all
-    → orders_of table told ++ orders_of table (option_to_list outcome) ≡ orders_of table all
-orders-more table told outcome all is =
-    sym (map-append (outgoing_order table) told (option_to_list outcome)) ∙ ap (orders_of table) is
-
-pub orders-one : (table : Outgoing) (told : List Dialled) (outcome : Dialled) (all : List Dialled)
-    → told ++ option_to_list (Some outcome) ≡ all
-    → orders_of table told ++ outgoing_order table outcome ∷ [] ≡ orders_of table all
-orders-one table told outcome all is = orders-more table told (Some outcome) all is
-
-pub orders-none : (table : Outgoing) (told all : List Dialled)
-    → told ++ option_to_list None ≡ all → orders_of table told ≡ orders_of table all
-orders-none table told all is = ap (orders_of table) (sym (append-nil told) ∙ is)
+pub left-told : (office : Office) (calls : List Call) (start out : Option (List ℕ)) → HasTold office calls start out
+    → left_of office ≡ left_out office.form office.table.pulsed calls
+left-told office calls start out told =
+    left-by office.form office.table.pulsed calls (office.keyed + office.refused) office.dialled told.number told.dialled
 
 -- what a register has taken is told by its keys
 pub taken-told : (limit : ℕ) (register : Register) (keys : List TimedKey) (told : List Dialled)

@@ -1,5 +1,5 @@
 -- The text of each fault.
-use Rattle.std.specs.Prelude.{ℕ, ◌++◌, List, codes, decimal, Option, Some, None}
+use Rattle.std.specs.Prelude.{ℕ, ◌++◌, List, codes, decimal, Option, Some}
 use Rattle.std.specs.Fmt.{◌++?◌}
 use Rattle.xb_command.specs.FaultTexts.{open_text}
 use Rattle.xb_outgoing.specs.FaultTexts.{outgoing_text}
@@ -16,6 +16,8 @@ line_text line.TooLong = codes "is longer than 65536 bytes"
 line_text line.NoObject = codes "is no JSON object"
 line_text line.NoName = codes "has a key of no such name"
 line_text line.NoTimes = codes "has a key without its times, at_ms and length_ms"
+line_text line.NoEnd = codes "has an entry with doubts, and without to_ms"
+line_text line.NotHeard = codes "has keys that were not heard: mftone and mfrx --json stand between"
 line_text line.NoMemory = codes "out of memory"
 
 -- of an office that stops

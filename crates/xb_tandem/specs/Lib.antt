@@ -1,5 +1,6 @@
 pub mod FaultTexts
 pub mod Faults
+pub mod Signs
 pub mod KeyLines
 pub mod TextLines
 pub mod Objects

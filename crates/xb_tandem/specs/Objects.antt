@@ -1,28 +1,38 @@
 -- The JSON objects of an entry, of a call by dial pulses and of the totals.
-use Rattle.std.specs.Prelude.{ℕ, List, [], ◌++◌, codes}
+use Rattle.std.specs.Prelude.{ℕ, List, [], ◌++◌, Bool, true, false, codes}
 use Rattle.serde_json.specs.Data.{Data, array, member, no_members, number, object, string, unsigned}
 use Rattle.serde_json.specs.View.{items_of}
 use Rattle.serde_json.specs.Written.{compact_text}
 use Rattle.xb_json.specs.Keys.{digits_text, keys_of}
 use Rattle.xb_model.specs.declared.order.Order.{Order}
 use Rattle.xb_model.specs.declared.order.Order.TheVariants as orders
+use Rattle.xb_model.specs.declared.reason.Reason.{Reason}
 use Rattle.xb_model.specs.Page.{reason_text}
+use Rattle.xb_tandem.specs.declared.call.Call.{Call}
 
--- the object of entry n of a line, by its order
-abbrev pub object_of : ℕ → ℕ → Order → Data
-object_of line n (orders.Key trunk sent) = object
+-- why a call is refused: a doubt has a word of its own
+abbrev pub reason_word : Bool → Reason → List ℕ
+reason_word true reason = codes "DOUBTFUL"
+reason_word false reason = reason_text reason
+
+-- the object of entry n of a line, by its order, and whether a doubt refused it
+abbrev pub object_by : ℕ → ℕ → Bool → Order → Data
+object_by line n is_doubted (orders.Key trunk sent) = object
     (member (codes "entry") (number (unsigned n))
     (member (codes "keys") (array (items_of (keys_of sent)))
     (member (codes "line") (number (unsigned line))
     (member (codes "outcome") (string (codes "KEYED"))
     (member (codes "sent") (string (digits_text sent))
     (member (codes "trunk") (number (unsigned trunk)) no_members))))))
-object_of line n (orders.Refused reason heard) = object
+object_by line n is_doubted (orders.Refused reason heard) = object
     (member (codes "entry") (number (unsigned n))
     (member (codes "heard") (number (unsigned heard))
     (member (codes "line") (number (unsigned line))
     (member (codes "outcome") (string (codes "REFUSED"))
-    (member (codes "reason") (string (reason_text reason)) no_members)))))
+    (member (codes "reason") (string (reason_word is_doubted reason)) no_members)))))
+
+abbrev pub object_of : ℕ → ℕ → Call → Data
+object_of line n call = object_by line n call.is_doubted call.order
 
 -- the object of a call that goes out by dial pulses
 abbrev pub pulses_object : ℕ → ℕ → List ℕ → Data
@@ -38,8 +48,8 @@ totals_object keyed refused = object
     (member (codes "refused") (number (unsigned refused)) no_members))
 
 -- each as a line
-abbrev pub object_line : ℕ → ℕ → Order → List ℕ
-object_line line n order = compact_text (object_of line n order) ++ codes "\n"
+abbrev pub object_line : ℕ → ℕ → Call → List ℕ
+object_line line n call = compact_text (object_of line n call) ++ codes "\n"
 
 -- a refusal takes no dial pulses
 abbrev pub pulses_line : ℕ → Order → List ℕ

@@ -21,6 +21,7 @@ pub record Say (matched : List Row) (options : Options) : Type 0 where
   pub keys : option_map (λ text. text.now) options.keys ≡ first_of (codes "KEYS") matched
   pub line : ReadsNumber (given_by matched (codes "line")) options.line
   pub timeout : ReadsNumber (given_by matched (codes "timeout")) options.timeout
+  pub doubtful : ReadsFlag (given_by matched (codes "doubtful")) options.doubtful
   pub json : ReadsFlag (given_by matched (codes "json")) options.json
   pub rows : ReadsFlag (given_by matched (codes "rows")) options.rows
 
@@ -46,6 +47,7 @@ request_of options =
       form = form;
       line = line;
       timeout_ms = timeout_of options.timeout;
+      trusts = options.doubtful;
     }) (line_of options.line)) (form_of options.json options.rows)
 
 -- a word is standard input

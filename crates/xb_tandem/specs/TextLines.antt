@@ -1,12 +1,12 @@
--- The lines of a text, and the keys that they say.
+-- The lines of a text, and the signs that they say.
 use Rattle.std.specs.Prelude.{ℕ, ◌≡◌, ◌⊎◌, ◌<◌, ◌+◌, ◌==◌, List, [], ◌∷◌, ◌++◌, length, Bool, true, false, if◌then◌else◌, Option, Some, None, Result, Ok, Err}
 use Rattle.std.specs.Io.KnownBytes.{Consumes, IsAtEnd}
-use Rattle.xb_incoming.specs.declared.key.TimedKey.{TimedKey}
 use Rattle.xb_tandem.specs.declared.fault.LineFault.{LineFault}
 use Rattle.xb_tandem.specs.declared.bytes.Unread.{Unread}
 use Rattle.xb_tandem.specs.declared.fault.ReadingFault.{ReadingFault}
 use Rattle.xb_tandem.specs.declared.lines.TheConstants.{MOST_LINE_BYTES}
-use Rattle.xb_tandem.specs.KeyLines.{Said, key_of_line}
+use Rattle.xb_tandem.specs.declared.sign.Sign.{Sign}
+use Rattle.xb_tandem.specs.KeyLines.{Said, sign_of_line}
 
 -- what comes after the last line feed is a line, too, where there is something
 abbrev pub last_line : List ℕ → List (List ℕ)
@@ -23,37 +23,37 @@ lines_after begun (byte ∷ bytes) = if byte == 10 then begun ∷ lines_after []
 abbrev pub text_lines : List ℕ → List (List ℕ)
 text_lines text = lines_after [] text
 
--- keys, or the first line that is wrong, with its number, and why
-abbrev pub Keys : Type 0
-Keys = Result (List TimedKey) (ℕ × LineFault)
+-- signs, or the first line that is wrong, with its number, and why
+abbrev pub Signs : Type 0
+Signs = Result (List Sign) (ℕ × LineFault)
 
-abbrev pub with_keys : List TimedKey → Keys → Keys
-with_keys first (Ok keys) = Ok (first ++ keys)
-with_keys first (Err wrong) = Err wrong
+abbrev pub with_signs : List Sign → Signs → Signs
+with_signs first (Ok signs) = Ok (first ++ signs)
+with_signs first (Err wrong) = Err wrong
 
-abbrev pub key_and_rest : ℕ → Said → Keys → Keys
-key_and_rest n (Err f) rest = Err (n, f)
-key_and_rest n (Ok None) rest = rest
-key_and_rest n (Ok (Some key)) rest = with_keys (key ∷ []) rest
+abbrev pub sign_and_rest : ℕ → Said → Signs → Signs
+sign_and_rest n (Err f) rest = Err (n, f)
+sign_and_rest n (Ok None) rest = rest
+sign_and_rest n (Ok (Some sign)) rest = with_signs (sign ∷ []) rest
 
--- the keys that lines say, of which the first has this number
-unfoldable pub keys_from : ℕ → List (List ℕ) → Keys
-keys_from n [] = Ok []
-keys_from n (line ∷ lines) = key_and_rest n (key_of_line line) (keys_from (n + 1) lines)
+-- the signs that lines say, of which the first has this number
+unfoldable pub signs_from : Bool → ℕ → List (List ℕ) → Signs
+signs_from trusts n [] = Ok []
+signs_from trusts n (line ∷ lines) = sign_and_rest n (sign_of_line trusts line) (signs_from trusts (n + 1) lines)
 
--- the keys of a text
-abbrev pub keys_of_text : List ℕ → Keys
-keys_of_text text = keys_from 1 (text_lines text)
+-- the signs of a text
+abbrev pub signs_of_text : Bool → List ℕ → Signs
+signs_of_text trusts text = signs_from trusts 1 (text_lines text)
 
--- the keys that lines say before the first that is wrong
-abbrev pub key_read : Said → List TimedKey → List TimedKey
-key_read (Err f) rest = []
-key_read (Ok None) rest = rest
-key_read (Ok (Some key)) rest = key ∷ rest
+-- the signs that lines say before the first that is wrong
+abbrev pub sign_read : Said → List Sign → List Sign
+sign_read (Err f) rest = []
+sign_read (Ok None) rest = rest
+sign_read (Ok (Some sign)) rest = sign ∷ rest
 
-unfoldable pub keys_read : List (List ℕ) → List TimedKey
-keys_read [] = []
-keys_read (line ∷ lines) = key_read (key_of_line line) (keys_read lines)
+unfoldable pub signs_read : Bool → List (List ℕ) → List Sign
+signs_read trusts [] = []
+signs_read trusts (line ∷ lines) = sign_read (sign_of_line trusts line) (signs_read trusts lines)
 
 -- one byte was read, or none at the end
 abbrev pub ReadsByte : Option (List ℕ) → Option (List ℕ) → Result (Option ℕ) Unread → Type 0

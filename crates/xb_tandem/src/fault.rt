@@ -9,7 +9,7 @@ use xb_command::OpenFault;
 use xb_outgoing::{OutgoingFault, TableFault};
 use xb_text::WriteFault;
 
-/// Why a text line says no key, and may not be passed over.
+/// Why a text line says neither a key nor a doubt, and may not be passed over.
 #[derive(Clone, Copy, Debug, PartialEq, Eq, Error)]
 pub enum LineFault {
     /// It has more than 65,536 bytes.
@@ -20,6 +20,10 @@ pub enum LineFault {
     NoName,
     /// It has a key, and `at_ms` or `length_ms` is missing, or no whole number of 64 bits.
     NoTimes,
+    /// It is an entry with doubts, and its `to_ms` is missing, or no whole number of 64 bits.
+    NoEnd,
+    /// It has the keys of an entry that was not heard, as `mflive --json` writes it.
+    NotHeard,
     /// Memory ran out.
     NoMemory,
 }
@@ -36,6 +40,10 @@ impl fmt::Display for LineFault {
             LineFault::NoObject => f.write_str("is no JSON object"),
             LineFault::NoName => f.write_str("has a key of no such name"),
             LineFault::NoTimes => f.write_str("has a key without its times, at_ms and length_ms"),
+            LineFault::NoEnd => f.write_str("has an entry with doubts, and without to_ms"),
+            LineFault::NotHeard => {
+                f.write_str("has keys that were not heard: mftone and mfrx --json stand between")
+            }
             LineFault::NoMemory => f.write_str("out of memory"),
         }
     }

@@ -1,11 +1,12 @@
-// The key that a text line says.
+// What a text line tells the register.
 ghost use Rattle.std.specs.Prelude.{◌≡◌, IfErr, IfOk, Ok, option_and_then};
 ghost use Rattle.serde_json.specs.Find.{as_str, get};
 ghost use Rattle.serde_json.specs.View.{view};
-ghost use Rattle.xb_tandem.specs.KeyLines.{IsFaultOfLine, digit_named, key_at, key_in, key_of_line, symbol_of_name, timed, whole_in};
+ghost use Rattle.xb_tandem.specs.KeyLines.{IsFaultOfLine, are_doubts, digit_named, doubt_by, entry_in, key_at, sign_in, sign_of_line, symbol_of_name, timed, whole_in};
 
 use crate::fault::LineFault;
 use crate::lines::MOST_LINE_BYTES;
+use crate::sign::Sign;
 use serde_json::Value;
 use std::alloc::Global;
 use xb_incoming::{Symbol, TimedKey};
@@ -57,7 +58,7 @@ fn whole_in(object: &Value, name: &str) -> Option<u64>
 }
 
 // A key with the times that its object says.
-fn timed(what: Symbol, object: &Value) -> Result<Option<TimedKey>, LineFault>
+fn timed(what: Symbol, object: &Value) -> Result<Option<Sign>, LineFault>
     ensures { result ≡ timed what (view object.now) }
 {
     let Some(begin) = whole_in(object, "at_ms") else {
@@ -66,7 +67,7 @@ fn timed(what: Symbol, object: &Value) -> Result<Option<TimedKey>, LineFault>
     let Some(length) = whole_in(object, "length_ms") else {
         return Err(LineFault::NoTimes);
     };
-    Ok(Some(key_at(what, begin, length)))
+    Ok(Some(Sign::Key(key_at(what, begin, length))))
 }
 
 // What the value of a member `key` is to a register.
@@ -76,15 +77,46 @@ fn symbol_of(value: &Value) -> Option<Symbol>
     symbol_of_name(value.as_str()?)
 }
 
-// The key that a value says: of an object without a key none.
-fn key_in(value: &Value) -> Result<Option<TimedKey>, LineFault>
-    ensures { result ≡ key_in (view value.now) }
+// Whether these are doubts: all is but an empty list.
+fn are_doubts(doubts: &Value) -> bool
+    ensures { result ≡ are_doubts (view doubts.now) }
+{
+    !doubts.is_array() || doubts.get(0).is_some()
+}
+
+// What an entry with these doubts says.
+fn doubt_by(trusts: bool, entry: &Value, doubts: &Value) -> Result<Option<Sign>, LineFault>
+    ensures { result ≡ doubt_by trusts (view entry.now) (view doubts.now) }
+{
+    if trusts || !are_doubts(doubts) {
+        return Ok(None);
+    }
+    match whole_in(entry, "to_ms") {
+        Some(ms) => Ok(Some(Sign::Doubt(ms))),
+        None => Err(LineFault::NoEnd),
+    }
+}
+
+// What an object without a key says: an entry that was heard has doubts, or that it has none.
+fn entry_in(trusts: bool, object: &Value) -> Result<Option<Sign>, LineFault>
+    ensures { result ≡ entry_in trusts (view object.now) }
+{
+    match (object.get("doubts"), object.get("keys")) {
+        (Some(doubts), _) => doubt_by(trusts, object, doubts),
+        (None, Some(_)) => Err(LineFault::NotHeard),
+        (None, None) => Ok(None),
+    }
+}
+
+// What a value says.
+fn sign_in(trusts: bool, value: &Value) -> Result<Option<Sign>, LineFault>
+    ensures { result ≡ sign_in trusts (view value.now) }
 {
     if !value.is_object() {
         return Err(LineFault::NoObject);
     }
     let Some(name) = value.get("key") else {
-        return Ok(None);
+        return entry_in(trusts, value);
     };
     let Some(what) = symbol_of(name) else {
         return Err(LineFault::NoName);
@@ -92,10 +124,15 @@ fn key_in(value: &Value) -> Result<Option<TimedKey>, LineFault>
     timed(what, value)
 }
 
-/// The key that a text line says, as `mfrx --json` writes it. Of another object it is `None`.
-pub(crate) fn key_of_line(alloc: Global, line: &[u8]) -> Result<Option<TimedKey>, LineFault>
-    ensures key { IfOk result (λ key. key_of_line line.now ≡ Ok key) }
-    ensures fault { IfErr result (IsFaultOfLine line.now) }
+/// What a text line says, as `mfrx --json` writes it: a key, or a doubt of an entry, but where such entries are trusted.
+/// Of another object it is `None`.
+pub(crate) fn sign_of_line(
+    alloc: Global,
+    trusts: bool,
+    line: &[u8],
+) -> Result<Option<Sign>, LineFault>
+    ensures sign { IfOk result (λ sign. sign_of_line trusts line.now ≡ Ok sign) }
+    ensures fault { IfErr result (IsFaultOfLine trusts line.now) }
 {
     if line.len() > MOST_LINE_BYTES {
         return Err(LineFault::TooLong);
@@ -105,5 +142,5 @@ pub(crate) fn key_of_line(alloc: Global, line: &[u8]) -> Result<Option<TimedKey>
         Err(error) if error.is_memory() => return Err(LineFault::NoMemory),
         Err(_) => return Err(LineFault::NoObject),
     };
-    key_in(&value)
+    sign_in(trusts, &value)
 }

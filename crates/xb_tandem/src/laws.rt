@@ -1,10 +1,24 @@
 //! What the definitions give: each law is the contract of a function that does nothing.
 ghost use Rattle.xb_tandem.specs.Constants.{AreConstants};
 ghost use Rattle.xb_tandem.specs.Entries.{PagesAreTapes, PulsesAreHeard};
+ghost use Rattle.xb_tandem.specs.Signs.{NumbersHaveNoDoubt, SignsAreKeys};
 
 /// The most bytes of a text line, the two silences of a register, and the most digits that it counts, each as it is.
 pub fn constants()
     ensures { AreConstants }
+{}
+
+/// What comes of the signs of a text is the outcomes of their keys, in order.
+#[tactic(auto, using(crate::proofs::SignsTold::signs_are_keys))]
+pub fn signs_are_keys()
+    ensures { SignsAreKeys }
+{}
+
+/// **No number goes on but from an entry without doubt.** The register takes a number from KP, its digits and ST, side by
+/// side: what a text says of a doubt stands before the ST that ends the entry, and would stand between them.
+#[tactic(auto, using(crate::proofs::Undoubted::numbers_have_no_doubt))]
+pub fn numbers_have_no_doubt()
+    ensures { NumbersHaveNoDoubt }
 {}
 
 /// The page is that of the entries of the outcomes that are keyed or refused, as `mfbank` prints entries; where no

@@ -1,9 +1,10 @@
 // The JSON objects of an entry, of a call by dial pulses and of the totals.
-ghost use Rattle.std.specs.Prelude.{◌≡◌, IfOk, string_bytes};
+ghost use Rattle.std.specs.Prelude.{◌≡◌, IfOk, false, string_bytes};
 ghost use Rattle.serde_json.specs.View.{view};
 ghost use Rattle.xb_model.specs.declared.order.Order.TheVariants as orders;
-ghost use Rattle.xb_tandem.specs.Objects.{object_line, object_of, pulses_line, pulses_object, totals_object, totals_object_line};
+ghost use Rattle.xb_tandem.specs.Objects.{object_by, object_line, object_of, pulses_line, pulses_object, reason_word, totals_object, totals_object_line};
 
+use crate::call::Call;
 use serde_json::Value;
 use std::alloc::{AllocError, Global};
 use xb_json::{Member, line_of, object_of as object_with};
@@ -17,7 +18,7 @@ fn keyed_object<'a>(
     trunk: Trunk,
     sent: &'a [Digit],
 ) -> Result<Value, AllocError>
-    ensures { IfOk result (λ value. view value ≡ object_of line number (orders.Key trunk sent.now)) }
+    ensures { IfOk result (λ value. view value ≡ object_by line number false (orders.Key trunk sent.now)) }
 {
     let members = [
         ("entry", Member::Number(number as u64)),
@@ -30,46 +31,61 @@ fn keyed_object<'a>(
     object_with(alloc, &members)
 }
 
+// Why a call is refused, in a word.
+fn reason_word(is_doubted: bool, reason: Reason) -> &'static str
+    ensures { result.now ≡ reason_word is_doubted reason }
+{
+    if is_doubted {
+        "DOUBTFUL"
+    } else {
+        reason.word()
+    }
+}
+
 // The object of an entry that is refused.
 fn refused_object(
     alloc: Global,
     line: LineNo,
     number: usize,
+    is_doubted: bool,
     reason: Reason,
     heard: u8,
 ) -> Result<Value, AllocError>
-    ensures { IfOk result (λ value. view value ≡ object_of line number (orders.Refused reason heard)) }
+    ensures { IfOk result (λ value. view value
+        ≡ object_by line number is_doubted (orders.Refused reason heard)) }
 {
     let members = [
         ("entry", Member::Number(number as u64)),
         ("heard", Member::Number(u64::from(heard))),
         ("line", Member::Number(u64::from(line.get()))),
         ("outcome", Member::Word("REFUSED")),
-        ("reason", Member::Word(reason.word())),
+        ("reason", Member::Word(reason_word(is_doubted, reason))),
     ];
     object_with(alloc, &members)
 }
 
-// The object of an entry by its order.
-fn object_of(alloc: Global, line: LineNo, number: usize, order: &Order) -> Result<Value, AllocError>
-    ensures { IfOk result (λ value. view value ≡ object_of line number order.now) }
+// The object of an entry by its call.
+fn object_of(alloc: Global, line: LineNo, number: usize, call: &Call) -> Result<Value, AllocError>
+    ensures { IfOk result (λ value. view value ≡ object_of line number call.now) }
 {
-    match order {
+    match &call.order {
         Order::Key(trunk, sent) => keyed_object(alloc, line, number, *trunk, sent.digits()),
-        Order::Refused(reason, heard) => refused_object(alloc, line, number, *reason, *heard),
+        Order::Refused(reason, heard) => {
+            refused_object(alloc, line, number, call.is_doubted, *reason, *heard)
+        }
     }
 }
 
-/// The object of an entry by its order, as a text line.
+/// The object of an entry by its call, as a text line.
 pub(crate) fn object_line(
     alloc: Global,
     line: LineNo,
     number: usize,
-    order: &Order,
+    call: &Call,
 ) -> Result<String, AllocError>
-    ensures { IfOk result (λ text. string_bytes text ≡ object_line line number order.now) }
+    ensures { IfOk result (λ text. string_bytes text ≡ object_line line number call.now) }
 {
-    let object = object_of(alloc, line, number, order)?;
+    let object = object_of(alloc, line, number, call)?;
     line_of(alloc, &object)
 }
 

@@ -1,13 +1,15 @@
 // The office behind a register: it routes what the register takes, and writes what is told of each call.
 ghost use Rattle.std.specs.Prelude.{◌≡◌};
 
+use crate::call::Call;
 use crate::fault::WritingFault;
 use crate::request::Form;
+use crate::sign::Sign;
 use crate::telling::{HEADER, dialled_line, entry_line, is_refusal, totals_line};
 use std::alloc::{AllocError, Global};
 use std::io::Write;
-use xb_incoming::{Register, TimedKey};
-use xb_model::{Dialled, LineNo, Order};
+use xb_incoming::Register;
+use xb_model::{Dialled, LineNo};
 use xb_outgoing::OutgoingTable;
 use xb_text::write_whole;
 
@@ -27,18 +29,17 @@ impl Office {
     ghost use Rattle.std.specs.Prelude.{◌≡◌, ◌≤◌, ◌<◌, ◌+◌, ◌^◌, ℕ, List, [], ◌∷◌, ◌++◌, Option, IfErr, IfOk, OnOk, string_bytes};
     ghost use Rattle.std.specs.Io.KnownBytes.{Appends};
     ghost use Rattle.xb_text.specs.Writing.{AppendsBeginning};
-    ghost use Rattle.xb_tandem.specs.Entries.{order_line, told_orders};
-    ghost use Rattle.xb_incoming.specs.declared.key.TimedKey.{TimedKey as Key};
-    ghost use Rattle.xb_model.specs.declared.order.Order.{Order as Ordered};
-    ghost use Rattle.xb_outgoing.specs.Tables.{outgoing_order};
+    ghost use Rattle.xb_tandem.specs.Entries.{call_line, call_with, told_calls};
+    ghost use Rattle.xb_tandem.specs.declared.call.Call.{Call as Told};
+    ghost use Rattle.xb_tandem.specs.declared.sign.Sign.{Sign as Said};
     ghost use Rattle.xb_tandem.specs.Written.{CountsOne, Ends, Finishes, HasTold, HasWritten, IsWithCounts, Takes, Tells, left_of};
 
     /// Writes what comes before all calls: the header of rows.
     pub(crate) fn begin<W: Write>(&self, out: &mut W) -> Result<(), WritingFault>
         ensures whole { OnOk result (Appends (W.contents out.old) (W.contents out.new)
-            (told_orders self.now.form self.now.line self.now.table.pulsed [])) }
+            (told_calls self.now.form self.now.line self.now.table.pulsed [])) }
         ensures beginning { IfErr result (λ _. AppendsBeginning (W.contents out.old) (W.contents out.new)
-            (told_orders self.now.form self.now.line self.now.table.pulsed [])) }
+            (told_calls self.now.form self.now.line self.now.table.pulsed [])) }
     {
         match self.form {
             Form::Page => Ok(()),
@@ -47,32 +48,32 @@ impl Office {
         }
     }
 
-    // Counts an order more.
-    fn count(&mut self, order: &Order)
+    // Counts a call more.
+    fn count(&mut self, call: &Call)
         requires { self.old.keyed + self.old.refused + self.old.dialled + 1 < 2 ^ 64 }
-        ensures counts { CountsOne self.old self.new order.now }
+        ensures counts { CountsOne self.old self.new call.now }
         ensures same { IsWithCounts self.old self.new }
     {
-        if self.table.is_dialled(order) {
+        if self.table.is_dialled(&call.order) {
             self.dialled += 1;
-        } else if is_refusal(order) {
+        } else if is_refusal(call) {
             self.refused += 1;
         } else {
             self.keyed += 1;
         }
     }
 
-    // What is written of an order.
-    fn order_line(&self, alloc: Global, order: &Order) -> Result<String, AllocError>
+    // What is written of a call.
+    fn call_line(&self, alloc: Global, call: &Call) -> Result<String, AllocError>
         requires { self.now.keyed + self.now.refused + self.now.dialled + 1 < 2 ^ 64 }
-        ensures { IfOk result (λ text. string_bytes text ≡ order_line self.now.form self.now.line self.now.table.pulsed
-            (self.now.keyed + self.now.refused) self.now.dialled order.now) }
+        ensures { IfOk result (λ text. string_bytes text ≡ call_line self.now.form self.now.line self.now.table.pulsed
+            (self.now.keyed + self.now.refused) self.now.dialled call.now) }
     {
-        if self.table.is_dialled(order) {
-            return dialled_line(alloc, self.form, self.line, self.dialled, order);
+        if self.table.is_dialled(&call.order) {
+            return dialled_line(alloc, self.form, self.line, self.dialled, &call.order);
         }
         let number = self.keyed + self.refused + 1;
-        entry_line(alloc, self.form, self.line, number, order)
+        entry_line(alloc, self.form, self.line, number, call)
     }
 
     // Writes what is told of an outcome, and counts it.
@@ -80,43 +81,46 @@ impl Office {
         &mut self,
         alloc: Global,
         outcome: &Dialled,
+        is_doubted: bool,
         out: &mut W,
     ) -> Result<(), WritingFault>
         requires { self.old.keyed + self.old.refused + self.old.dialled + 1 < 2 ^ 64 }
-        ensures told { (orders : List Ordered) (start : Option (List ℕ)) →
-            HasTold self.old orders start (W.contents out.old) →
-            Tells self.new (orders ++ outgoing_order self.old.table outcome.now ∷ []) result start
+        ensures told { (calls : List Told) (start : Option (List ℕ)) →
+            HasTold self.old calls start (W.contents out.old) →
+            Tells self.new (calls ++ call_with self.old.table is_doubted outcome.now ∷ []) result start
             (W.contents out.new) }
         ensures one { self.new.keyed + self.new.refused + self.new.dialled
             ≤ self.old.keyed + self.old.refused + self.old.dialled + 1 }
         ensures same { IsWithCounts self.old self.new }
     {
         let order = self.table.order_of(outcome);
-        let text = self.order_line(alloc, &order)?;
+        let call = Call { order, is_doubted };
+        let text = self.call_line(alloc, &call)?;
         write_whole(out, text.as_bytes())?;
-        self.count(&order);
+        self.count(&call);
         Ok(())
     }
 
-    /// Takes a key, and writes what is told of the call that it makes certain, if it does. On an `Err` the beginning of
+    /// Takes a sign, and writes what is told of the call that it makes certain, if it does. On an `Err` the beginning of
     /// this was written.
     pub(crate) fn take<W: Write>(
         &mut self,
         alloc: Global,
-        key: TimedKey,
+        sign: Sign,
         out: &mut W,
     ) -> Result<(), WritingFault>
         requires { self.old.keyed + self.old.refused + self.old.dialled + 1 < 2 ^ 64 }
-        ensures written { (limit : ℕ) (keys : List Key) (start : Option (List ℕ)) →
-            HasWritten limit self.old keys start (W.contents out.old) →
-            Takes limit self.new (keys ++ key ∷ []) result start (W.contents out.new) }
+        ensures written { (limit : ℕ) (signs : List Said) (start : Option (List ℕ)) →
+            HasWritten limit self.old signs start (W.contents out.old) →
+            Takes limit self.new (signs ++ sign ∷ []) result start (W.contents out.new) }
         ensures one { self.new.keyed + self.new.refused + self.new.dialled
             ≤ self.old.keyed + self.old.refused + self.old.dialled + 1 }
         ensures same { (self.new.form ≡ self.old.form) × (self.new.line ≡ self.old.line)
             × (self.new.table ≡ self.old.table) }
     {
-        match self.register.take(key) {
-            Some(outcome) => self.tell(alloc, &outcome, out),
+        let is_doubted = sign.is_doubt();
+        match self.register.take(sign.key()) {
+            Some(outcome) => self.tell(alloc, &outcome, is_doubted, out),
             None => Ok(()),
         }
     }
@@ -126,13 +130,13 @@ impl Office {
         requires { self.old.keyed + self.old.refused + self.old.dialled + 1 < 2 ^ 64 }
         ensures one { self.new.keyed + self.new.refused + self.new.dialled
             ≤ self.old.keyed + self.old.refused + self.old.dialled + 1 }
-        ensures written { (limit : ℕ) (keys : List Key) (start : Option (List ℕ)) →
-            HasWritten limit self.old keys start (W.contents out.old) →
-            Finishes limit self.new keys result start (W.contents out.new) }
+        ensures written { (limit : ℕ) (signs : List Said) (start : Option (List ℕ)) →
+            HasWritten limit self.old signs start (W.contents out.old) →
+            Finishes limit self.new signs result start (W.contents out.new) }
         ensures same { IsWithCounts self.old self.new }
     {
         match self.register.finish() {
-            Some(outcome) => self.tell(alloc, &outcome, out),
+            Some(outcome) => self.tell(alloc, &outcome, false, out),
             None => Ok(()),
         }
     }
@@ -157,9 +161,9 @@ impl Office {
         out: &mut W,
     ) -> Result<usize, WritingFault>
         requires { self.old.keyed + self.old.refused + self.old.dialled + 1 < 2 ^ 64 }
-        ensures { (limit : ℕ) (keys : List Key) (start : Option (List ℕ)) →
-            HasWritten limit self.old keys start (W.contents out.old) →
-            Ends limit self.old keys result start (W.contents out.new) }
+        ensures { (limit : ℕ) (signs : List Said) (start : Option (List ℕ)) →
+            HasWritten limit self.old signs start (W.contents out.old) →
+            Ends limit self.old signs result start (W.contents out.new) }
     {
         self.finish(alloc, out)?;
         let text = totals_line(alloc, self.form, self.keyed, self.refused)?;

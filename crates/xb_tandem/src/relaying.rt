@@ -1,11 +1,11 @@
 // From a table and keys to the page.
 ghost use Rattle.std.specs.Prelude.{◌≡◌, ◌≤◌, ◌<◌, ◌+◌, ◌^◌, ℕ, List, Option, IfErr};
-ghost use Rattle.xb_incoming.specs.declared.key.TimedKey.{TimedKey as Key};
+ghost use Rattle.xb_tandem.specs.declared.sign.Sign.{Sign as Said};
 ghost use Rattle.xb_tandem.specs.Relaying.{Delivers, IsFresh, IsOfKeys, Relays, TakesLine};
 ghost use Rattle.xb_tandem.specs.Written.{HasWritten};
 
 use crate::fault::{LineFault, TandemFault};
-use crate::key_line::key_of_line;
+use crate::key_line::sign_of_line;
 use crate::lines::next_line;
 use crate::office::Office;
 use crate::request::Request;
@@ -18,48 +18,50 @@ use xb_outgoing::read_table;
 // The most text lines that are counted.
 const MOST_LINES: u64 = 1 << 63;
 
-// Takes the key of text line `number`, if it says one.
+// Takes the sign of text line `number`, if it says one.
 fn take_line<'a, W: Write>(
     alloc: Global,
     office: &mut Office,
+    trusts: bool,
     number: u64,
     line: &[u8],
     out: &mut W,
 ) -> Result<(), TandemFault<'a>>
     requires { office.old.keyed + office.old.refused + office.old.dialled + 1 < 2 ^ 64 }
-    ensures written { (limit : ℕ) (keys : List Key) (start : Option (List ℕ)) →
-        HasWritten limit office.old keys start (W.contents out.old) →
-        TakesLine limit office.new keys number line.now result start (W.contents out.new) }
+    ensures written { (limit : ℕ) (signs : List Said) (start : Option (List ℕ)) →
+        HasWritten limit office.old signs start (W.contents out.old) →
+        TakesLine limit trusts office.new signs number line.now result start (W.contents out.new) }
     ensures kind { IfErr result IsOfKeys }
     ensures one { office.new.keyed + office.new.refused + office.new.dialled
         ≤ office.old.keyed + office.old.refused + office.old.dialled + 1 }
     ensures same { (office.new.form ≡ office.old.form) × (office.new.line ≡ office.old.line)
         × (office.new.table ≡ office.old.table) }
 {
-    match key_of_line(alloc, line) {
-        Ok(Some(key)) => Ok(office.take(alloc, key, out)?),
+    match sign_of_line(alloc, trusts, line) {
+        Ok(Some(sign)) => Ok(office.take(alloc, sign, out)?),
         Ok(None) => Ok(()),
         Err(LineFault::NoMemory) => Err(TandemFault::NoMemory),
         Err(fault) => Err(TandemFault::TextLine(number, fault)),
     }
 }
 
-// Takes the keys of a text to its end, by an office that has taken none.
+// Takes the signs of a text to its end, by an office that has taken none.
 fn take_lines<'a, R: Read, W: Write>(
     alloc: Global,
     office: &mut Office,
+    trusts: bool,
     keys: &mut R,
     out: &mut W,
 ) -> Result<usize, TandemFault<'a>>
     requires fresh { IsFresh office.old }
-    ensures page { Relays office.old (R.remaining keys.old) result (W.contents out.old) (W.contents out.new) }
+    ensures page { Relays office.old trusts (R.remaining keys.old) result (W.contents out.old) (W.contents out.new) }
     ensures kind { IfErr result IsOfKeys }
 {
     office.begin(out)?;
     let mut line = Vec::new(alloc);
     for before in 0..MOST_LINES {
         if next_line(keys, &mut line)? {
-            take_line(alloc, office, before + 1, &line, out)?;
+            take_line(alloc, office, trusts, before + 1, &line, out)?;
         } else {
             return Ok(office.end(alloc, out)?);
         }
@@ -67,7 +69,7 @@ fn take_lines<'a, R: Read, W: Write>(
     Err(TandemFault::TooMany)
 }
 
-/// Reads the table of a file, and then the keys of a text as they come, and writes the page of the office: each entry
+/// Reads the table of a file, and then the keys and doubts of a text as they come, and writes the page of the office: each entry
 /// with the key that makes it certain, and the totals at the end of the text; or objects; or the rows of the calls that
 /// go out by dial pulses. It returns how many calls are not in what was written: on a page those by dial pulses, and
 /// beside rows the others. Memory does not grow with the text, which is read byte by byte: hand it a reader with a
@@ -98,5 +100,5 @@ pub fn relay<'a, F: Files, R: Read, W: Write>(
         refused: 0,
         dialled: 0,
     };
-    take_lines(alloc, &mut office, keys, out)
+    take_lines(alloc, &mut office, request.trusts, keys, out)
 }

@@ -21,6 +21,8 @@ pub struct Request {
     pub line: LineNo,
     /// The silence inside a keying by which the register times out, in ms.
     pub timeout_ms: u64,
+    /// Whether entries of which something is doubtful are taken as all others.
+    pub trusts: bool,
 }
 
 /// What the words ask for.

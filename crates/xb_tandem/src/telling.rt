@@ -1,7 +1,8 @@
-// What is told of an order, by what is asked for, and the totals.
+// What is told of a call, by what is asked for, and the totals.
 ghost use Rattle.std.specs.Prelude.{◌≡◌, IfOk, string_bytes};
 ghost use Rattle.xb_tandem.specs.Entries.{dialled_line, entry_line, is_refusal, sent_of, totals_line};
 
+use crate::call::Call;
 use crate::objects::{object_line, pulses_line, totals_object_line};
 use crate::pulses::records_of_call;
 use crate::request::Form;
@@ -13,20 +14,20 @@ use xb_tape::{is_refused, write_entry, write_totals};
 /// The header of rows.
 pub(crate) const HEADER: &str = "line,state,ms\n";
 
-/// What is written of an order that is keyed or refused, as entry `number` of a line.
+/// What is written of a call that is keyed or refused, as entry `number` of a line.
 pub(crate) fn entry_line(
     alloc: Global,
     form: Form,
     line: LineNo,
     number: usize,
-    order: &Order,
+    call: &Call,
 ) -> Result<String, AllocError>
-    ensures { IfOk result (λ text. string_bytes text ≡ entry_line form line number order.now) }
+    ensures { IfOk result (λ text. string_bytes text ≡ entry_line form line number call.now) }
 {
     let mut text = String::new(alloc);
     match form {
-        Form::Page => write_entry(&mut text, line, number, marks_of(order).as_slice())?,
-        Form::Json => return object_line(alloc, line, number, order),
+        Form::Page => write_entry(&mut text, line, number, marks_of(&call.order).as_slice())?,
+        Form::Json => return object_line(alloc, line, number, call),
         Form::Rows => {}
     }
     Ok(text)
@@ -77,9 +78,9 @@ pub(crate) fn totals_line(
     Ok(text)
 }
 
-/// Whether the entry of an order is a refused call.
-pub(crate) fn is_refusal(order: &Order) -> bool
-    ensures { result ≡ is_refusal order.now }
+/// Whether the entry of a call is a refused one.
+pub(crate) fn is_refusal(call: &Call) -> bool
+    ensures { result ≡ is_refusal call.now }
 {
-    is_refused(marks_of(order).as_slice())
+    is_refused(marks_of(&call.order).as_slice())
 }

@@ -24,9 +24,13 @@ keyed.
 A route with send = \"dp\" sends its calls on by dial pulses. Such a call has no entry: a line on standard error says
 at the end how many there were. All routes of a trunk group are sent alike.
 
-Of a key its members key, at_ms and length_ms are read; an object without key is passed over. The status is 0 for a
-page, also where entries are refused, 1 for a fault, of the table or of a text line, 2 where the words are refused,
-and 141 where the reader of the page goes away.",
+An entry of which mfrx doubts something is MUTILATED, and its reason in JSON is DOUBTFUL. With --doubtful it is taken
+as any other.
+
+Of a key its members key, at_ms and length_ms are read, and of an entry doubts and to_ms. Other objects are passed
+over; but the entries of mflive are a fault, since their keys were not heard: mftone and mfrx --json stand between.
+The status is 0 for a page, also where entries are refused, 1 for a fault, of the table or of a text line, 2 where the
+words are refused, and 141 where the reader of the page goes away.",
     words: &[
         Word {
             name: "TABLE",
@@ -56,6 +60,11 @@ and 141 where the reader of the page goes away.",
             ..FLAG
         },
         Word {
+            name: "doubtful",
+            help: "takes an entry of which mfrx doubts something as any other",
+            ..FLAG
+        },
+        Word {
             name: "json",
             help: "a JSON object an entry, each in a line: entry, line, outcome, and trunk, sent and keys, or reason and
         heard; of a call by dial pulses line, outcome, pulses and trunk; and the totals, keyed and refused",
@@ -80,6 +89,7 @@ pub(crate) struct Options<'a> {
     pub(crate) keys: Option<&'a str>,
     pub(crate) line: Option<u32>,
     pub(crate) timeout: Option<u32>,
+    pub(crate) doubtful: bool,
     pub(crate) json: bool,
     pub(crate) rows: bool,
 }
@@ -100,6 +110,7 @@ pub(crate) fn options_of<'a>(words: &Words<'a>) -> Options<'a>
         keys: words.text("KEYS"),
         line: words.number("line"),
         timeout: words.number("timeout"),
+        doubtful: words.flag("doubtful"),
         json: words.flag("json"),
         rows: words.flag("rows"),
     }
@@ -144,6 +155,7 @@ fn request_of(options: Options<'_>) -> Option<Request>
         form,
         line,
         timeout_ms: timeout_of(options.timeout),
+        trusts: options.doubtful,
     })
 }
 

@@ -1,5 +1,5 @@
 -- What the digits of a line come to, each of which a pause ended: of all of them, and with one more.
-use Rattle.std.specs.Prelude.{ℕ, ◌+◌, ◌-◌, ◌*◌, ◌^◌, min, max, List, Bool, true, false, Option, Some, None, cond, is_some, length, map}
+use Rattle.std.specs.Prelude.{ℕ, ◌+◌, ◌-◌, ◌*◌, ◌^◌, min, max, List, Bool, true, false, Option, Some, None, cond, if◌then◌else◌, is_some, length, map}
 use Rattle.std.specs.List.{count_by, filter_map, fold, reduce, sum}
 use Rattle.xb_contact.specs.declared.scale.Scale.{Scale}
 use Rattle.xb_heard.specs.Figures.{quotient_of}
@@ -71,17 +71,21 @@ verdicts_of verdicts = record {
 }
 
 -- a digit's pulses, and its longest bounce
-abbrev pub speed_in : Scale → Train × ℕ → Option ℕ
-speed_in scale digit = speed_of scale digit.0
-
-abbrev pub share_in : Train × ℕ → Option ℕ
-share_in digit = share_of digit.0
-
-abbrev pub verdict_in : Windows → Scale → Train × ℕ → Option Verdict
-verdict_in windows scale digit = verdict_of windows digit.0.pulses (speed_in scale digit) (share_in digit)
-
 abbrev pub is_spoiled : Train × ℕ → Bool
 is_spoiled digit = is_some digit.0.wrong
+
+-- its figures count unless it is spoiled
+abbrev pub counted_in : Train × ℕ → Option ℕ → Option ℕ
+counted_in digit figure = if is_spoiled digit then None else figure
+
+abbrev pub speed_in : Scale → Train × ℕ → Option ℕ
+speed_in scale digit = counted_in digit (speed_of scale digit.0)
+
+abbrev pub share_in : Train × ℕ → Option ℕ
+share_in digit = counted_in digit (share_of digit.0)
+
+abbrev pub verdict_in : Windows → Scale → Train × ℕ → Option Verdict
+verdict_in windows scale digit = verdict_of windows digit.0.pulses (speed_of scale digit.0) (share_of digit.0)
 
 -- all digits
 abbrev pub sums_of : Windows → Scale → List (Train × ℕ) → Sums

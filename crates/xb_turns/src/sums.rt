@@ -1,5 +1,5 @@
 // What the digits of a line come to.
-ghost use Rattle.std.specs.Prelude.{◌≡◌};
+ghost use Rattle.std.specs.Prelude.{◌≡◌, None, if◌then◌else◌};
 ghost use Rattle.xb_turns.specs.Sums.{mean_of, or_less, or_more, sums_after, total_with, verdicts_with};
 ghost use Rattle.xb_turns.specs.Sums.{with_digit, with_figure};
 
@@ -113,6 +113,13 @@ fn or_more(most: Option<u128>, tenths: u128) -> Option<u128>
     }
 }
 
+// A figure of a digit that is not spoiled.
+fn unless(is_spoiled: bool, figure: Option<u128>) -> Option<u128>
+    ensures { result ≡ if is_spoiled then None else figure }
+{
+    if is_spoiled { None } else { figure }
+}
+
 // Figures and one more, if it is one.
 fn with_figure(series: Series, figure: Option<u128>) -> Series
     ensures { result ≡ with_figure series figure }
@@ -153,19 +160,18 @@ fn verdicts_with(verdicts: Verdicts, verdict: Option<Verdict>) -> Verdicts
 }
 
 impl Sums {
-    // A digit more, with its longest bounce.
+    // A digit more, with its longest bounce. One that is spoiled has no figures.
     fn with_digit(self, windows: Windows, scale: Scale, train: &Train, bounce: u64) -> Sums
         ensures { result ≡ with_digit windows scale self (train.now, bounce) }
     {
         let (speed, share) = (speed_of(scale, train), share_of(train));
         let verdict = verdict_of(windows, train.pulses, speed, share);
+        let is_spoiled = train.wrong.is_some();
         Sums {
             digits: self.digits.saturating_add(1),
-            spoiled: self
-                .spoiled
-                .saturating_add(u64::from(train.wrong.is_some())),
-            speed: with_figure(self.speed, speed),
-            share: with_figure(self.share, share),
+            spoiled: self.spoiled.saturating_add(u64::from(is_spoiled)),
+            speed: with_figure(self.speed, unless(is_spoiled, speed)),
+            share: with_figure(self.share, unless(is_spoiled, share)),
             bounce: self.bounce.max(bounce),
             verdicts: verdicts_with(self.verdicts, verdict),
         }

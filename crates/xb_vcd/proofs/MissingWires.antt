@@ -1,6 +1,6 @@
 -- The first wire that a VCD does not declare.
 use Rattle.std.proofs.Common.{◌≡◌, ℕ, suc, ◌+◌, ◌<◌, ◌≤◌, List, [], ◌∷◌, ◌++◌, Bool, true, false, cond, not, Option, Some, None, length, length-append, map, replicate, refl, ap, sym, subst, ◌∙◌, arith, append_assoc, append-nil, codes, true≢false, ◌||◌}
-use Rattle.std.specs.Prelude.{Result, Ok, Err, bytes_eq, nat_lt}
+use Rattle.std.specs.Prelude.{Result, Ok, bytes_eq, max, nat_lt}
 use Rattle.std.specs.List.{AllByRecursion, IsDistinct, list_all, position_or_len}
 use Rattle.std.specs.Option.{is_none}
 use Rattle.std.proofs.lemmas.Bool.{and_parts}
@@ -10,16 +10,15 @@ use Rattle.std.proofs.lemmas.Slice.Eq.{bytes_eq-Decides}
 use Rattle.xb_contact.specs.declared.event.Event.{Event}
 use Rattle.xb_contact.specs.declared.event.Event.TheVariants as events
 use Rattle.xb_contact.specs.declared.event.Refusal.{Refusal}
-use Rattle.xb_contact.specs.declared.event.Refusal.TheVariants as refusals
 use Rattle.xb_contact.specs.Changes.{AreNames, IsName}
 use Rattle.xb_contact.specs.Steps.{all_say, result_and_then, result_map, said_before, then_later}
 use Rattle.xb_contact.specs.Times.{scale_by}
 use Rattle.xb_contact.proofs.StepLemmas.{line_is_quiet, line_says}
 use Rattle.xb_contact.proofs.Written.{AreOthers, one_of, others_differ}
 use Rattle.xb_vcd.specs.MissingWires.{FirstMissingIsTold, is_declared}
-use Rattle.xb_vcd.specs.VcdTexts.{begun_vcd, declared_code, declared_codes, ends_without, first_missing, var_words, vcd_ends, vcd_line_says, vcd_says, word_says}
+use Rattle.xb_vcd.specs.VcdTexts.{begun_vcd, declared_code, declared_codes, ends_without, first_missing, found_code, var_words, vcd_ends, vcd_line_says, vcd_says, word_says}
 use Rattle.xb_vcd.specs.WrittenVcd.{change_lines, time_line, var_line, var_lines}
-use Rattle.xb_vcd.proofs.WrittenVcd.{in_header, var_says}
+use Rattle.xb_vcd.proofs.WrittenVcd.{greatest_from, in_header, var_says}
 
 -- the code of a wire by the names that were declared, from this one on
 abbrev code_among : ℕ → List (List ℕ) → List ℕ → Option ℕ
@@ -52,7 +51,7 @@ code-next i (own ∷ done) name wanted all = at (bytes_eq wanted own) refl (code
     at true e later =
         let is : wanted ≡ own = (bytes_eq-Decides wanted own).0 e in
         let other : bytes_eq wanted name ≡ false = ap (λ n. bytes_eq n name) is ∙ all.0 in
-        ap (λ t. cond {A = Result (Option ℕ) Refusal} t (Err refusals.Twice) (Ok (Some (33 + i)))) other
+        ap (λ t. cond t (found_code (var_words 3 true (33 + (i + length (own ∷ done)))) (Some (33 + i))) (Ok (Some (33 + i)))) other
     at false e later =
         let place : i + length (own ∷ done) ≡ i + 1 + length done = omega arith in
         ap (λ n. declared_code (var_words 3 true (33 + n)) name wanted (code_among (i + 1) done wanted)) place ∙ later
@@ -70,13 +69,13 @@ codes-next done name (first ∷ wanted) all =
 
 -- all declarations
 all-declared :
-    (wanted names before rest : List (List ℕ)) (i : ℕ) (lines : List (List ℕ)) → names ≡ before ++ rest
+    (wanted names before rest : List (List ℕ)) (i greatest : ℕ) (lines : List (List ℕ)) → names ≡ before ++ rest
     → i ≡ 0 + length before → AreNames names → length names ≤ 94
-    → vcd_says (in_header wanted (codes_among before wanted)) (var_lines i rest ++ lines)
-    ≡ vcd_says (in_header wanted (codes_among names wanted)) lines
-all-declared wanted names before [] i lines all at lawful few =
-    ap (λ them. vcd_says (in_header wanted (codes_among them wanted)) lines) (sym (all ∙ append-nil before))
-all-declared wanted names before (name ∷ rest) i lines all at lawful few =
+    → vcd_says (in_header wanted (codes_among before wanted) greatest) (var_lines i rest ++ lines)
+    ≡ vcd_says (in_header wanted (codes_among names wanted) (greatest_from greatest i rest)) lines
+all-declared wanted names before [] i greatest lines all at lawful few =
+    ap (λ them. vcd_says (in_header wanted (codes_among them wanted) greatest) lines) (sym (all ∙ append-nil before))
+all-declared wanted names before (name ∷ rest) i greatest lines all at lawful few =
     let P : List (List ℕ) → Type 0 = λ them. AllByRecursion IsName them in
     let Q : List (List ℕ) → Type 0 = λ them. IsDistinct bytes_eq them in
     let own = codes_among before wanted in
@@ -88,9 +87,9 @@ all-declared wanted names before (name ∷ rest) i lines all at lawful few =
     omega (arith, length-append before (name ∷ rest)) in
     let declared : declared_codes (var_words 3 true (33 + i)) name wanted own ≡ Ok new =
     subst (λ n. declared_codes (var_words 3 true (33 + n)) name wanted own ≡ Ok new) (sym at) (codes-next before name wanted apart.0) in
-    line_is_quiet vcd_line_says vcd_ends (in_header wanted own) (in_header wanted new) (var_line i name) (var_lines (i + 1) rest ++ lines)
-    (var_says i name wanted own new is within declared)
-    ∙ all-declared wanted names (before ++ name ∷ []) rest (i + 1) lines (all ∙ sym (append_assoc before (name ∷ []) rest))
+    line_is_quiet vcd_line_says vcd_ends (in_header wanted own greatest) (in_header wanted new (max greatest (33 + i))) (var_line i name)
+    (var_lines (i + 1) rest ++ lines) (var_says i name wanted own new greatest is within declared)
+    ∙ all-declared wanted names (before ++ name ∷ []) rest (i + 1) (max greatest (33 + i)) lines (all ∙ sym (append_assoc before (name ∷ []) rest))
     (omega (arith, length-append before (name ∷ []))) lawful few
 
 -- a wire that is declared has a code, and another one has none
@@ -149,10 +148,11 @@ first_missing_is_told names changes end before after name lawful few all none =
     let later : List (List ℕ) = codes "$enddefinitions $end" ∷ rest in
     let ticks : List Event = events.Ticks (scale_by 1 1000) ∷ [] in
     let own = codes_among names wanted in
-    line_says vcd_line_says vcd_ends (begun_vcd wanted) (in_header wanted (replicate (length wanted) None)) (codes "$timescale 1 us $end")
+    let greatest = greatest_from 0 0 names in
+    line_says vcd_line_says vcd_ends (begun_vcd wanted) (in_header wanted (replicate (length wanted) None) 0) (codes "$timescale 1 us $end")
     (var_lines 0 names ++ later) ticks refl
-    ∙ ap (λ begun. then_later ticks (vcd_says (in_header wanted begun) (var_lines 0 names ++ later))) (begun-codes wanted)
+    ∙ ap (λ begun. then_later ticks (vcd_says (in_header wanted begun 0) (var_lines 0 names ++ later))) (begun-codes wanted)
     ∙ ap (then_later ticks)
-    (all-declared wanted names [] names 0 later refl refl lawful few
-    ∙ ap (λ missing. result_and_then (λ said. then_later said.0 (vcd_says said.1 rest)) (result_and_then (λ said. said_before said.0 (all_say word_says said.1 (codes "$end" ∷ []))) (ends_without (in_header wanted own) missing)))
+    (all-declared wanted names [] names 0 0 later refl refl lawful few
+    ∙ ap (λ missing. result_and_then (λ said. then_later said.0 (vcd_says said.1 rest)) (result_and_then (λ said. said_before said.0 (all_say word_says said.1 (codes "$end" ∷ []))) (ends_without (in_header wanted own greatest) missing)))
     (missing-at names before after name all none))

@@ -1,5 +1,5 @@
 -- The changes of a VCD, word by word.
-use Rattle.std.specs.Prelude.{ℕ, ◌+◌, List, [], ◌∷◌, Bool, true, false, Option, Some, None, Ok, Err, map, nat_eq, if◌then◌else◌}
+use Rattle.std.specs.Prelude.{ℕ, ◌+◌, List, [], ◌∷◌, Bool, true, false, Option, Some, None, Ok, Err, map, nat_eq, nat_lt, ◌&&◌, ◌||◌, if◌then◌else◌}
 use Rattle.std.specs.List.{list_any}
 use Rattle.std.specs.Option.{ok_or}
 use Rattle.xb_contact.specs.declared.event.Event.{Event}
@@ -14,13 +14,16 @@ use Rattle.xb_vcd.specs.declared.vcd.Vcd.{Vcd}
 use Rattle.xb_contact.specs.Steps.{Said, is_before, result_and_then}
 use Rattle.xb_vcd.specs.VcdWords.{code_of, word_of}
 
--- the wires that are asked for, the codes of those that were found, the place in the text, whether the length of
--- a tick has come, and the last time, if there is one
+-- the wires that are asked for, the codes of those that were found, the greatest code that is declared, 0 before the
+-- first, the place in the text, whether the length of a tick has come, whether a wire that is asked for has had a level,
+-- and the last time, if there is one
 pub record VcdState : Type 0 where
   pub names : List (List ℕ)
   pub codes : List (Option ℕ)
+  pub greatest : ℕ
   pub place : VcdPlace
   pub has_scale : Bool
+  pub has_level : Bool
   pub last : Option ℕ
 
 -- what a reader of a VCD knows
@@ -28,8 +31,10 @@ abbrev pub vcd_state : Vcd → VcdState
 vcd_state vcd = record {
   names = map (λ name. name.now) vcd.names.now;
   codes = vcd.codes.items;
+  greatest = vcd.greatest;
   place = vcd.place;
   has_scale = vcd.has_scale;
+  has_level = vcd.has_level;
   last = vcd.last;
 }
 
@@ -40,7 +45,7 @@ at_place state place = record state { place = place }
 abbrev pub goes_to : VcdState → VcdPlace → Said VcdState
 goes_to state place = Ok ([], at_place state place)
 
--- a wire that was found has this code
+-- this is the code of a wire that was found
 abbrev pub has_code : ℕ → Option ℕ → Bool
 has_code code None = false
 has_code code (Some own) = nat_eq own code
@@ -58,14 +63,28 @@ time_taken state time =
     if is_before time state.last then Err refusals.Backwards
     else Ok (events.At time ∷ [], record state { last = Some time })
 
--- a value that is neither 0 nor 1: only of a wire that nobody asked for
-abbrev pub unknown_taken : VcdState → ℕ → Said VcdState
-unknown_taken state code = if list_any (has_code code) state.codes then Err refusals.Level else Ok ([], state)
+-- a wire that was found has this code
+abbrev pub is_wanted : VcdState → ℕ → Bool
+is_wanted state code = list_any (has_code code) state.codes
 
--- a value of the wires of a code: a level, or neither
+-- a level of the wires of a code
+abbrev pub level_taken : VcdState → Level → ℕ → Said VcdState
+level_taken state level code =
+    Ok (level_events 0 code level state.codes, record state { has_level = state.has_level || is_wanted state code })
+
+-- a value that is neither 0 nor 1: before any level, or of a wire that nobody asked for
+abbrev pub unknown_taken : VcdState → ℕ → Said VcdState
+unknown_taken state code = if state.has_level && is_wanted state code then Err refusals.Level else Ok ([], state)
+
+-- a level, or neither
+abbrev pub known_taken : VcdState → Option Level → ℕ → Said VcdState
+known_taken state (Some level) code = level_taken state level code
+known_taken state None code = unknown_taken state code
+
+-- a value of the wires of a code, which is not above all that are declared
 abbrev pub value_taken : VcdState → Option Level → ℕ → Said VcdState
-value_taken state (Some level) code = Ok (level_events 0 code level state.codes, state)
-value_taken state None code = unknown_taken state code
+value_taken state value code =
+    if nat_lt state.greatest code then Err refusals.Code else known_taken state value code
 
 -- a word among the changes
 abbrev pub change_by_word : VcdState → Word → Said VcdState

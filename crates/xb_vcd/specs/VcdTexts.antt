@@ -1,5 +1,5 @@
 -- What a VCD says: its words, one after the other.
-use Rattle.std.specs.Prelude.{ℕ, ◌*◌, List, [], ◌∷◌, ◌++◌, Bool, true, false, Option, Some, None, Result, Ok, Err, codes, bytes_eq, length, nat_le, ◌==◌, ◌&&◌, ◌||◌, if◌then◌else◌, nat_eq, replicate}
+use Rattle.std.specs.Prelude.{ℕ, ◌*◌, List, [], ◌∷◌, ◌++◌, Bool, true, false, Option, Some, None, Result, Ok, Err, codes, bytes_eq, length, max, nat_le, ◌==◌, ◌&&◌, ◌||◌, if◌then◌else◌, nat_eq, replicate}
 use Rattle.std.specs.List.{position, starts_with}
 use Rattle.std.specs.Option.{is_none, ok_or, option_and_then}
 use Rattle.xb_contact.specs.declared.scale.Scale.{Scale}
@@ -40,8 +40,10 @@ abbrev pub begun_vcd : List (List ℕ) → VcdState
 begun_vcd names = record {
   names = names;
   codes = replicate (length names) None;
+  greatest = 0;
   place = places.Header;
   has_scale = false;
+  has_level = false;
   last = None;
 }
 
@@ -82,12 +84,12 @@ scale_taken state None word =
 abbrev pub var_words : ℕ → Bool → ℕ → VarWords
 var_words count is_bit code = record { count = count; is_bit = is_bit; code = code }
 
--- the code of a wire that had none
+-- the code of a wire that had none, or this one: a port that stands in several scopes is one wire
 abbrev pub first_code : ℕ → Option ℕ → Result (Option ℕ) Refusal
 first_code code None = Ok (Some code)
-first_code code (Some own) = Err refusals.Twice
+first_code code (Some own) = if nat_eq own code then Ok (Some code) else Err refusals.Twice
 
--- a wire of one bit that was not found yet has this code
+-- a wire of one bit has this code
 abbrev pub found_code : VarWords → Option ℕ → Result (Option ℕ) Refusal
 found_code found own = if found.is_bit then first_code found.code own else Err refusals.Bits
 
@@ -103,14 +105,18 @@ declared_codes found name (wanted ∷ names) (own ∷ rest) =
     result_and_then (λ code. result_map (λ later. code ∷ later) (declared_codes found name names rest))
     (declared_code found name wanted own)
 
+-- the code of a declaration
+abbrev pub code_said : VcdState → VarWords → ℕ → VcdState
+code_said state found code =
+    record state { place = places.Var (var_words 3 found.is_bit code); greatest = max state.greatest code }
+
 -- a word of a declaration: kind, size, code and name
 abbrev pub var_taken : VcdState → VarWords → List ℕ → Said VcdState
 var_taken state found word =
     if found.count == 0 then goes_to state (places.Var (var_words 1 found.is_bit found.code))
     else (if found.count == 1 then goes_to state (places.Var (var_words 2 (bytes_eq word (codes "1")) found.code))
     else (if found.count == 2
-    then result_and_then (λ code. goes_to state (places.Var (var_words 3 found.is_bit code)))
-    (ok_or (code_of word) refusals.Word)
+    then result_map (λ code. ([], code_said state found code)) (ok_or (code_of word) refusals.Word)
     else result_map (λ own. ([], record state { codes = own; place = places.Passed false }))
     (declared_codes found word state.names state.codes)))
 

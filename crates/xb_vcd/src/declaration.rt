@@ -22,15 +22,15 @@ pub const NO_WORDS: VarWords = VarWords {
     code: 0,
 };
 
-// The code of a wire that is declared, which had none.
+// The code of a wire that is declared, which had none, or the same, as a port in several scopes has.
 fn found_code(words: VarWords, own: Option<u64>) -> Result<Option<u64>, Refusal>
     ensures code { result ≡ found_code words own }
     ensures memory { IfErr result (λ e. e ≢ Refusal.NoMemory) }
 {
     match own {
         _ if !words.is_bit => Err(Refusal::Bits),
-        Some(_) => Err(Refusal::Twice),
-        None => Ok(Some(words.code)),
+        Some(code) if code != words.code => Err(Refusal::Twice),
+        Some(_) | None => Ok(Some(words.code)),
     }
 }
 

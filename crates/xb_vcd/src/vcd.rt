@@ -1,8 +1,8 @@
 // A value change dump, line by line.
-ghost use Rattle.std.specs.Prelude.{◌≡◌, ◌≢◌, ◌++◌, ◌∷◌, ◌↔◌, [], Err, Ok, IfErr, IfOk, IsErr, IsTrue, OnErr, OnOk, map, true};
+ghost use Rattle.std.specs.Prelude.{◌≡◌, ◌≢◌, ◌++◌, ◌∷◌, [], Err, Ok, IfErr, IfOk, IsTrue, OnErr, OnOk, map, true};
 ghost use Rattle.std.specs.List.{list_any};
 ghost use Rattle.xb_contact.specs.Steps.{Adds, IsRefusedBy, all_say};
-ghost use Rattle.xb_vcd.specs.VcdChanges.{change_taken, code_taken, has_code, level_events, time_taken, value_taken, vcd_state};
+ghost use Rattle.xb_vcd.specs.VcdChanges.{change_taken, code_taken, has_code, level_events, level_taken, time_taken, unknown_taken, value_taken, vcd_state};
 ghost use Rattle.xb_vcd.specs.VcdEvents.{HasEvent, SayAnEvent};
 ghost use Rattle.xb_vcd.specs.VcdTexts.{begun_vcd, first_missing, header_ends, header_taken, scale_said, scale_taken, var_taken, vcd_line_says, vcd_says, word_before, word_says, words_of};
 
@@ -19,8 +19,12 @@ use xb_contact::{Event, Level, Refusal, cut_digits, is_before, number_of, say};
 pub struct Vcd<'a> {
     names: &'a [&'a str],
     codes: Vec<Option<u64>>,
+    // The greatest code that is declared, of any wire; 0 before the first.
+    greatest: u64,
     place: VcdPlace,
     has_scale: bool,
+    // Whether a wire that is asked for has had a level.
+    has_level: bool,
     last: Option<u64>,
 }
 
@@ -39,8 +43,10 @@ impl<'a> Vcd<'a> {
         Ok(Vcd {
             names,
             codes,
+            greatest: 0,
             place: VcdPlace::Header,
             has_scale: false,
+            has_level: false,
             last: None,
         })
     }
@@ -83,36 +89,70 @@ impl<'a> Vcd<'a> {
         Ok(())
     }
 
-    // The wire of this code has another value than 0 or 1.
-    fn refuse_if_wanted(&self, code: u64) -> Result<(), Refusal>
-        ensures wanted { IsErr result ↔ IsTrue (list_any (has_code code) self.now.codes.items) }
-        ensures level { IfErr result (λ e. e ≡ Refusal.Level) }
+    // Whether a wire that is asked for has this code.
+    fn is_wanted(&self, code: u64) -> bool
+        ensures { result ≡ list_any (has_code code) self.now.codes.items }
     {
         for own in self.codes.iter() {
             if *own == Some(code) {
-                return Err(Refusal::Level);
+                return true;
             }
         }
-        Ok(())
+        false
     }
 
-    // The wire of this code has a level, or neither.
+    // The wire of this code has a level.
     #[tactic(auto, using(crate::proofs::EventLemmas::some_level))]
+    fn take_level(
+        &mut self,
+        level: Level,
+        code: u64,
+        events: &mut Vec<Event>,
+    ) -> Result<(), Refusal>
+        ensures said { OnOk result (Adds (level_taken (vcd_state self.old) level code)
+            events.old.items events.new.items (vcd_state self.new)) }
+        ensures refused { IfErr result (IsRefusedBy (level_taken (vcd_state self.old) level code)) }
+        ensures memory { IfErr result (λ e. e ≡ Refusal.NoMemory
+            → HasEvent (level_taken (vcd_state self.old) level code)) }
+        ensures kept { self.new ≡ record self.old { has_level = self.new.has_level } }
+    {
+        self.has_level = self.has_level || self.is_wanted(code);
+        self.change(code, level, events)
+    }
+
+    // The wire of this code has another value than 0 or 1. Before any level it may have that.
+    fn take_unknown(&self, code: u64) -> Result<(), Refusal>
+        ensures said { OnOk result (unknown_taken (vcd_state self.now) code ≡ Ok ([], vcd_state self.now)) }
+        ensures refused { IfErr result (λ e. unknown_taken (vcd_state self.now) code ≡ Err e) }
+        ensures memory { IfErr result (λ e. e ≢ Refusal.NoMemory) }
+    {
+        if self.has_level && self.is_wanted(code) {
+            Err(Refusal::Level)
+        } else {
+            Ok(())
+        }
+    }
+
+    // The wire of this code has a level, or neither. Its code is not above all that are declared.
     fn take_value(
-        &self,
+        &mut self,
         value: Option<Level>,
         code: u64,
         events: &mut Vec<Event>,
     ) -> Result<(), Refusal>
-        ensures said { OnOk result (Adds (value_taken (vcd_state self.now) value code)
-            events.old.items events.new.items (vcd_state self.now)) }
-        ensures refused { IfErr result (IsRefusedBy (value_taken (vcd_state self.now) value code)) }
+        ensures said { OnOk result (Adds (value_taken (vcd_state self.old) value code)
+            events.old.items events.new.items (vcd_state self.new)) }
+        ensures refused { IfErr result (IsRefusedBy (value_taken (vcd_state self.old) value code)) }
         ensures memory { IfErr result (λ e. e ≡ Refusal.NoMemory
-            → HasEvent (value_taken (vcd_state self.now) value code)) }
+            → HasEvent (value_taken (vcd_state self.old) value code)) }
+        ensures kept { self.new ≡ record self.old { has_level = self.new.has_level } }
     {
+        if code > self.greatest {
+            return Err(Refusal::Code);
+        }
         match value {
-            Some(level) => self.change(code, level, events),
-            None => self.refuse_if_wanted(code),
+            Some(level) => self.take_level(level, code, events),
+            None => self.take_unknown(code),
         }
     }
 
@@ -214,11 +254,14 @@ impl<'a> Vcd<'a> {
                 });
             }
             2 => match code_of(word) {
-                Some(code) => self.place = VcdPlace::Var(VarWords {
-                    count: 3,
-                    is_bit,
-                    code,
-                }),
+                Some(code) => {
+                    self.greatest = self.greatest.max(code);
+                    self.place = VcdPlace::Var(VarWords {
+                        count: 3,
+                        is_bit,
+                        code,
+                    });
+                }
                 None => return Err(Refusal::Word),
             },
             _ => {
@@ -265,6 +308,7 @@ impl<'a> Vcd<'a> {
             → HasEvent (change_taken (vcd_state self.old) word.now)) }
         ensures kept { self.new ≡ record self.old {
           place = self.new.place;
+          has_level = self.new.has_level;
           last = self.new.last;
         } }
     {
@@ -298,6 +342,7 @@ impl<'a> Vcd<'a> {
             → HasEvent (code_taken (vcd_state self.old) value word.now)) }
         ensures kept { self.new ≡ record self.old {
           place = self.new.place;
+          has_level = self.new.has_level;
           last = self.new.last;
         } }
     {

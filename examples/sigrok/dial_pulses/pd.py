@@ -81,7 +81,7 @@ class Decoder(srd.Decoder):
     options = (
         {'id': 'polarity', 'desc': 'Level of a closed loop', 'default': 'active-high',
             'values': ('active-high', 'active-low')},
-        {'id': 'settle', 'desc': 'A shorter run is a bounce (ms)', 'default': 5},
+        {'id': 'settle', 'desc': 'A shorter run bounces (ms)', 'default': 5},
         {'id': 'dial', 'desc': 'Windows of the verdict', 'default': 'bell', 'values': ('bell', 'gpo')},
     )
     annotations = (
@@ -188,8 +188,10 @@ class Decoder(srd.Decoder):
     def hold(self, is_make, until):
         '''The contact has a level up to a sample. A run that is too short belongs to the next one that is not.'''
         if is_make != self.run_is_make:
-            if self.taken > self.run_begin and self.taken - self.run_begin < self.least:
-                self.longest = max(self.longest, self.taken - self.run_begin)
+            if self.taken > self.run_begin:
+                length = self.taken - self.run_begin
+                self.chatter = self.chatter + length if length < self.least else 0
+                self.longest = max(self.longest, self.chatter)
             self.run_is_make, self.run_begin = is_make, self.taken
         self.taken = until
         if until - self.run_begin < self.least:
@@ -214,7 +216,7 @@ class Decoder(srd.Decoder):
         closed = self.options['polarity'] == 'active-high'
         self.least = max(1, -(-self.options['settle'] * self.samplerate // 1000))
         self.train, self.place, self.is_told = None, ON_HOOK, False
-        self.begin = self.until = self.taken = self.run_begin = self.edge = self.bounce = self.longest = 0
+        self.begin = self.until = self.taken = self.run_begin = self.edge = self.bounce = self.longest = self.chatter = 0
         level, = self.wait({'skip': 0})
         self.is_make = self.run_is_make = bool(level) == closed
         first = self.samplenum

@@ -5,7 +5,7 @@ use std::process::Abort;
 use std::test::Fail;
 use test_kit::check_texts;
 use test_kit::decks::{TABLE, joined};
-use xb_routes::{RouteFault, RouteTable};
+use xb_routes::{NumberFault, RouteFault, RouteTable};
 
 // The text of each fault.
 const TEXTS: &[(RouteFault, &str)] = &[
@@ -21,6 +21,32 @@ const TEXTS: &[(RouteFault, &str)] = &[
     (RouteFault::NothingToKey(1), "route 1 keys no digit"),
     (RouteFault::Twice(2), "route 2 repeats a code"),
     (RouteFault::NoMemory, "out of memory"),
+    (RouteFault::PlanAndNumber, "both plan and number"),
+    (RouteFault::TooManyNumbers, "more than 100 numbers"),
+    (
+        RouteFault::Number(0, NumberFault::Shape),
+        "number 0 has a wrong shape",
+    ),
+    (
+        RouteFault::Number(1, NumberFault::Begins),
+        "number 1 has a wrong begins",
+    ),
+    (
+        RouteFault::Number(20, NumberFault::Digits),
+        "number 20 has wrong digits",
+    ),
+    (
+        RouteFault::Number(3, NumberFault::Short),
+        "number 3 is shorter than its begins",
+    ),
+    (
+        RouteFault::Number(100, NumberFault::Twice),
+        "number 100 repeats a begins",
+    ),
+    (
+        RouteFault::Number(1, NumberFault::Outgrown),
+        "number 1 is shorter than a longer begins",
+    ),
 ];
 
 #[test]

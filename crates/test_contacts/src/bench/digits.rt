@@ -25,7 +25,7 @@ pub const UNENDED: (&[u8], &str) = (
 0007  hung up
 0007      -       2   10.0     60.0         60.0         40.0        -        0.0        -
 0007  the recording ends
-0007  digits 0, spoiled 0; p/s - (-); % break - (-); bounce 0.0 ms
+0007  digits 0, spoiled 0; p/s - (-); % break - (-); bounce 0.0 ms; no digit: is the wire the other way round (--inverted)?
 ",
 );
 
@@ -42,7 +42,7 @@ pub const SPOILED: (&[u8], &str) = (
 0007      x       2   13.5     81.1         60.0         14.0        -        0.0        -  make 14 ms < 15
 0007      x       1      -        -         19.0            -        -        0.0        -  break 19 ms < 20
 0007  hung up
-0007  digits 5, spoiled 4; p/s 9.8 (5.8-13.5); % break 69.4 (60.0-81.1); bounce 0.0 ms; GOOD 1
+0007  digits 5, spoiled 4; p/s 10.0 (10.0); % break 60.0 (60.0); bounce 0.0 ms; GOOD 1
 ",
 );
 
@@ -56,13 +56,13 @@ pub const DRIFT: (&[u8], &str) = (
 ",
 );
 
-// Bounces of 0.3, 0.2, 0.8, 0.7, 1.2 and 0.1 ms; the settled breaks last 60.5 and 61 ms.
+// Bounces of 0.3 and 0.2, of 0.8 and 0.7, and of 1.2 and 0.1 ms; the settled breaks last 60.5 and 61 ms.
 const BOUNCED: (&[u8], &str) = (
     b"0.000000,1\n0.400000,0\n0.400300,1\n0.400500,0\n0.460500,1\n0.461300,0\n0.462000,1\n0.500500,0\n\
 0.561500,1\n0.562700,0\n0.562800,1\n1.062800,0\n1.462800,0\n",
-    "0007      2       2   10.0     60.2    60.5-61.0         40.0        -        1.2        -
+    "0007      2       2   10.0     60.2    60.5-61.0         40.0        -        1.5        -
 0007  hung up
-0007  digits 1, spoiled 0; p/s 10.0 (10.0); % break 60.2 (60.2); bounce 1.2 ms
+0007  digits 1, spoiled 0; p/s 10.0 (10.0); % break 60.2 (60.2); bounce 1.5 ms
 ",
 );
 

@@ -35,8 +35,8 @@ erdict\":null}\n{\"bounce_ms_tenths\":0,\"breaks_ms_tenths\":{\"least\":190,\"mo
 ft_permille\":null,\"event\":\"DIGIT\",\"fault\":{\"kind\":\"SHORT_BREAK\",\"limit\":20,\"ms\":19},\"line\":7,\
 \"makes_ms_tenths\":null,\"open_permille\":null,\"pulses\":1,\"speed_tenths\":null,\"verdict\":null}\n{\"event\
 \":\"RELEASED\",\"line\":7}\n{\"bounce_ms_tenths\":0,\"digits\":5,\"event\":\"SUMMARY\",\"line\":7,\"open_perm\
-ille\":{\"count\":4,\"least\":600,\"mean\":694,\"most\":811},\"speed_tenths\":{\"count\":4,\"least\":58,\"mean\
-\":98,\"most\":135},\"spoiled\":4,\"verdicts\":{\"FAST\":0,\"GOOD\":1,\"HIGH\":0,\"LOW\":0,\"PASS\":0,\"SLOW\"\
+ille\":{\"count\":1,\"least\":600,\"mean\":600,\"most\":600},\"speed_tenths\":{\"count\":1,\"least\":100,\"mean\
+\":100,\"most\":100},\"spoiled\":4,\"verdicts\":{\"FAST\":0,\"GOOD\":1,\"HIGH\":0,\"LOW\":0,\"PASS\":0,\"SLOW\"\
 :0}}\n";
 
 const OF_DRIFT: &str =

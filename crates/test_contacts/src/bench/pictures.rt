@@ -11,7 +11,7 @@ const PLOT_OF_SPOILED: &str =
 -family=\"Helvetica, Arial, sans-serif\">\n<rect x=\"0\" y=\"0\" width=\"6640\" height=\"3240\" fill=\"#fff\
 fff\"/>\n<text x=\"440\" y=\"190\" font-size=\"150\" fill=\"#1b2a3a\" text-anchor=\"start\" font-weight=\"b\
 old\">line 0007</text>\n<text x=\"440\" y=\"320\" font-size=\"62\" fill=\"#6b7a8a\" text-anchor=\"start\" f\
-ont-weight=\"normal\">digits 5, spoiled 4; p/s 9.8 (5.8-13.5); % break 69.4 (60.0-81.1); bounce 0.0 ms; GOO\
+ont-weight=\"normal\">digits 5, spoiled 4; p/s 10.0 (10.0); % break 60.0 (60.0); bounce 0.0 ms; GOO\
 D 1</text>\n<text x=\"440\" y=\"575\" font-size=\"62\" fill=\"#1b2a3a\" text-anchor=\"start\" font-weight=\
 \"bold\">pulses a second</text>\n<rect x=\"440\" y=\"620\" width=\"6000\" height=\"1000\" fill=\"#f2f2f2\"/\
 >\n<rect x=\"440\" y=\"870\" width=\"6000\" height=\"500\" fill=\"#eaf6ec\"/>\n<rect x=\"440\" y=\"953\" wi\

@@ -140,7 +140,7 @@ line  digit  pulses    p/s  % break     break ms      make ms  drift %  bounce m
         &["--wire", "7=1", "--speed", "9.8-10.2", "--share", "65-67.5"],
         b"0.000000,1\n0.400000,0\n0.466000,1\n0.500000,0\n0.566000,1\n0.600000,0\n0.666000,1\n0.700000,0\n\
 0.766000,1\n0.800000,0\n0.866000,1\n1.366000,0\n1.766000,0\n",
-        "dial: adjust 9.8-10.2, accept 9.8-10.2 pulses a second, 65.0-67.5 % break
+        "dial: adjust 9.8-10.2, accept 8.0-11.0 pulses a second, 65.0-67.5 % break
 line  digit  pulses    p/s  % break     break ms      make ms  drift %  bounce ms  verdict
 ",
         "0007      5       5   10.0     66.0         66.0         34.0      0.0        0.0     GOOD
@@ -152,12 +152,12 @@ line  digit  pulses    p/s  % break     break ms      make ms  drift %  bounce m
         &["--wire", "7=1", "--dial", "gpo", "--speed", "10.1-12"],
         b"0.000000,1\n0.400000,0\n0.466000,1\n0.500000,0\n0.566000,1\n0.600000,0\n0.666000,1\n0.700000,0\n\
 0.766000,1\n0.800000,0\n0.866000,1\n1.366000,0\n1.766000,0\n",
-        "dial: adjust 10.1-12.0, accept 10.1-12.0 pulses a second, 63.0-70.0 % break
+        "dial: adjust 10.1-12.0, accept 9.0-12.0 pulses a second, 63.0-70.0 % break
 line  digit  pulses    p/s  % break     break ms      make ms  drift %  bounce ms  verdict
 ",
-        "0007      5       5   10.0     66.0         66.0         34.0      0.0        0.0     SLOW
+        "0007      5       5   10.0     66.0         66.0         34.0      0.0        0.0     PASS
 0007  hung up
-0007  digits 1, spoiled 0; p/s 10.0 (10.0); % break 66.0 (66.0); bounce 0.0 ms; SLOW 1
+0007  digits 1, spoiled 0; p/s 10.0 (10.0); % break 66.0 (66.0); bounce 0.0 ms; PASS 1
 ",
     ),
 ];

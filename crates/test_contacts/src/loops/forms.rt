@@ -136,7 +136,7 @@ fn gives_the_rows_in_any_pieces(rt: HostRuntime) -> Result<(), Fail> {
 #[test]
 fn gives_up_where_nothing_is_told(rt: HostRuntime) -> Result<(), Fail> {
     let untold =
-        b"mfloop: the recording: the form of the recording cannot be told: give --format\n";
+        b"mfloop: the recording: no form begins so: leave out a header of your own, write commas for semicolons, or give --format\n";
     for (count, wanted) in [
         (EMPTY_LINES - 6, Gives::page(ROWS)),
         (EMPTY_LINES, Gives::fault(1, untold)),

@@ -121,12 +121,12 @@ const UNTOLD: &[Fault] = &[
     (
         &[],
         b"hello\n",
-        b"mfloop: the recording: the form of the recording cannot be told: give --format\n",
+        b"mfloop: the recording: no form begins so: leave out a header of your own, write commas for semicolons, or give --format\n",
     ),
     (
         &["--list"],
         b"hello\n",
-        b"mfloop: the recording: the form of the recording cannot be told: give --format\n",
+        b"mfloop: the recording: no form begins so: leave out a header of your own, write commas for semicolons, or give --format\n",
     ),
 ];
 

@@ -130,12 +130,17 @@ const OTHERS: &[Fault] = &[
     (
         &["--wire", "7=1"],
         b"hello\n",
-        b"mfloop: the recording: the form of the recording cannot be told: give --format\n",
+        b"mfloop: the recording: no form begins so: leave out a header of your own, write commas for semicolons, or give --format\n",
     ),
     (
         &["--wire", "7=1"],
         b"",
-        b"mfloop: the recording: the form of the recording cannot be told: give --format\n",
+        b"mfloop: the recording: it is empty\n",
+    ),
+    (
+        &["--wire", "7=1"],
+        b"line,state,ms\n7,M,500\n",
+        b"mfloop: the recording: this is a deck or a part of one, and no recording: mfhear takes one, without --wire\n",
     ),
     // archives
     (&["--wire", "7=D0"], SESSION, ARCHIVE),
@@ -145,7 +150,7 @@ const OTHERS: &[Fault] = &[
     (
         &["--wire", "7=1"],
         b"PK\x03",
-        b"mfloop: the recording: the form of the recording cannot be told: give --format\n",
+        b"mfloop: the recording: no form begins so: leave out a header of your own, write commas for semicolons, or give --format\n",
     ),
     (
         &["--wire", "7=1", "--format", "bits"],

@@ -109,7 +109,7 @@ const LEVELS: &[(&str, &[u8], &[u8], &[u8], &str)] = &[
         HEAD,
         b"\x05\x00\x00\x00\x80\x80\x83\x80\x80",
         HEADER,
-        "1",
+        "any",
     ),
     // the other channel is loud
     (
@@ -205,11 +205,15 @@ fn advises_a_threshold_for_quiet_sound(rt: HostRuntime) -> Result<(), Fail> {
         let mut told = Vec::new(rt.alloc());
         if !percent.is_empty() {
             told.extend_from_slice(
-                b"mfloop: the end of the recording: the sound is too quiet for the threshold: ",
+                b"mfloop: the end of the recording: the sound is too quiet for ",
             )?;
-            told.extend_from_slice(b"give --threshold ")?;
-            told.extend_from_slice(percent.as_bytes())?;
-            told.extend_from_slice(b"\n")?;
+            if *percent == "any" {
+                told.extend_from_slice(b"any threshold: record it louder\n")?;
+            } else {
+                told.extend_from_slice(b"the threshold: give --threshold ")?;
+                told.extend_from_slice(percent.as_bytes())?;
+                told.extend_from_slice(b"\n")?;
+            }
         }
         let wanted = Gives {
             status: if percent.is_empty() { 0 } else { 1 },

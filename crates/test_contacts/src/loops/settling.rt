@@ -1,9 +1,9 @@
 // Bounces, ticks and what is told of them.
 use crate::loops::attending::Mfloop;
 use std::test::Fail;
-use test_kit::{Case, check_cases};
+use test_kit::{Case, Gives, check_cases, check_pieces};
 
-// The loop closes at 10 ms, and bounces for 2.5 ms; it opens at 30.4 ms, and bounces once, for 0.6 ms.
+// The loop closes at 10 ms, and bounces for 2.5 ms; it opens at 30.4 ms, and bounces for 0.9 ms.
 const BOUNCES: &[u8] =
     b"0,0\n0.010,1\n0.011,0\n0.0115,1\n0.012,0\n0.0125,1\n0.0304,0\n0.031,1\n0.0313,0\n0.060,0\n";
 
@@ -28,7 +28,7 @@ const CASES: &[Case] = &[
         BOUNCES,
         0,
         b"line,state,ms\n7,B,10\n7,M,20\n7,B,30\n",
-        b"line 7: 6 bounces, the longest 1000 us\n",
+        b"line 7: 2 bounces, the longest 2500 us\n",
     ),
     // ticks of 1 fs, whose product with a thousand has more than 64 bits
     (
@@ -86,4 +86,21 @@ const CASES: &[Case] = &[
 #[test]
 fn settles_and_rounds(rt: HostRuntime) -> Result<(), Fail> {
     check_cases(rt.alloc(), &Mfloop, CASES)
+}
+
+// Samples that are read at once are taken 64 bytes after the other, so the rows of two lines come in the order of time.
+#[test]
+fn gives_the_rows_of_two_lines_in_turn(rt: HostRuntime) -> Result<(), Fail> {
+    let words = [
+        "--wire", "7=0", "--wire", "8=1", "--format", "bits", "--rate", "1000", "--tick", "20",
+    ];
+    let rows = b"line,state,ms\n7,B,64\n8,B,64\n7,B,64\n8,B,64\n7,B,64\n8,B,64\n7,B,8\n8,B,8\n";
+    check_pieces(
+        rt.alloc(),
+        &Mfloop,
+        &words,
+        &[0; 200],
+        &[8_192],
+        Gives::page(rows),
+    )
 }

@@ -38,8 +38,8 @@ const PASSED_OVER: &[u8] =
 delte = 3\n---\n\nline,state,ms\n7,M,500\n";
 
 const TOLD: &[u8] =
-    b"a.deck:1:1: no rule names this key; here are plan, limits and route (did you mean plan?): plann = 10
-a.deck:2:1: no rule names this heading; there are [limits] and [[route]]: [limit]
+    b"a.deck:1:1: no rule names this key; here are plan, limits, number and route (did you mean plan?): plann = 10
+a.deck:2:1: no rule names this heading; there are [limits], [[number]] and [[route]]: [limit]
 a.deck:7:1: no rule names this key; here are code, trunk, delete and prefix, and send for mftandem and mfroute (did you mean delete?): delte = 3
 ";
 
@@ -50,10 +50,10 @@ const MARKED: &[u8] =
 \tcode = \"234\"\n \"trunk\" = 17\n \tdelte = \"\"\"\nfoo = 1\n[c]\"\"\"\n---\nline,state,ms\n7,M,500\n";
 
 const MARKED_TOLD: &[u8] =
-    b"deck:1:4: no rule names this key; here are plan, limits and route (did you mean plan?): ???plam = 10
+    b"deck:1:4: no rule names this key; here are plan, limits, number and route (did you mean plan?): ???plam = 10
 deck:2:1: no rule names this key; here are pulse_min, pulse_max, make_min, pause, release and timeout \
 (did you mean pulse_min?): 'limits' . \"puls\\u0065_mni\" = 3
-deck:3:1: no rule names this key; here are plan, limits and route: remarks = [ # [a]
+deck:3:1: no rule names this key; here are plan, limits, number and route: remarks = [ # [a]
 deck:9:3: no rule names this key; here are code, trunk, delete and prefix, and send for mftandem and mfroute (did you mean delete?):  ?delte = \"\"\"
 ";
 
@@ -174,7 +174,7 @@ const TABLE: &[u8] =
 
 const WRONG_CODE: &[u8] =
     b"deck:2:4: no rule names this key; here are code, trunk, delete and prefix, and send for mftandem and mfroute:  { plan = 10, trunk = 17, \"code\" = \"2345\" } ]
-deck:2:27: the code is not 0, NNX or N11, nor one of plan 10:  { plan = 10, trunk = 17, \"code\" = \"2345\" } ]
+deck:2:27: the code is not 0, NNX or N11, nor one of plan 10; by [[number]] it is not 1 to 9 digits of a number:  { plan = 10, trunk = 17, \"code\" = \"2345\" } ]
 ";
 
 // A deck with twelve records of line 10000 and eleven breaks of 1 ms, one after the other.
@@ -211,17 +211,17 @@ deck: and 1 more, which --all tells: a break of 1 to 4 ms may be a bounce; mfloo
 const HEADINGS: &[u8] = b"[a]\n[b]\n[c]\n[d]\n[e]\n[f]\n[g]\n[h]\n[i]\n[j]\n[k]\n";
 
 const ALL_HEADINGS: &[u8] =
-    b"t:1:1: no rule names this heading; there are [limits] and [[route]]: [a]
-t:2:1: no rule names this heading; there are [limits] and [[route]]: [b]
-t:3:1: no rule names this heading; there are [limits] and [[route]]: [c]
-t:4:1: no rule names this heading; there are [limits] and [[route]]: [d]
-t:5:1: no rule names this heading; there are [limits] and [[route]]: [e]
-t:6:1: no rule names this heading; there are [limits] and [[route]]: [f]
-t:7:1: no rule names this heading; there are [limits] and [[route]]: [g]
-t:8:1: no rule names this heading; there are [limits] and [[route]]: [h]
-t:9:1: no rule names this heading; there are [limits] and [[route]]: [i]
-t:10:1: no rule names this heading; there are [limits] and [[route]]: [j]
-t:11:1: no rule names this heading; there are [limits] and [[route]]: [k]
+    b"t:1:1: no rule names this heading; there are [limits], [[number]] and [[route]]: [a]
+t:2:1: no rule names this heading; there are [limits], [[number]] and [[route]]: [b]
+t:3:1: no rule names this heading; there are [limits], [[number]] and [[route]]: [c]
+t:4:1: no rule names this heading; there are [limits], [[number]] and [[route]]: [d]
+t:5:1: no rule names this heading; there are [limits], [[number]] and [[route]]: [e]
+t:6:1: no rule names this heading; there are [limits], [[number]] and [[route]]: [f]
+t:7:1: no rule names this heading; there are [limits], [[number]] and [[route]]: [g]
+t:8:1: no rule names this heading; there are [limits], [[number]] and [[route]]: [h]
+t:9:1: no rule names this heading; there are [limits], [[number]] and [[route]]: [i]
+t:10:1: no rule names this heading; there are [limits], [[number]] and [[route]]: [j]
+t:11:1: no rule names this heading; there are [limits], [[number]] and [[route]]: [k]
 ";
 
 // A deck as a spreadsheet writes it, with semicolons, and other rows.
@@ -246,7 +246,7 @@ const LONE_CRS: &[u8] =
     b"# one\r\nplam = 10\r\n---\r\n\rline,state,ms\r8386,X,15\r7,C,0\r\n7,M,5\r\r\n7,C\n";
 
 const LONE_CRS_TOLD: &[u8] =
-    b"deck:2:1: no rule names this key; here are plan, limits and route (did you mean plan?): plam = 10
+    b"deck:2:1: no rule names this key; here are plan, limits, number and route (did you mean plan?): plam = 10
 deck:6:6: the state is not M, B or C: 8386,X,15
 deck:8:1: this record is ignored; its line was closed in text line 7: 7,M,5
 deck:10:1: the record has not three fields: 7,C
@@ -292,7 +292,7 @@ const PAGES: &[Page] = &[
     (
         &[],
         MISNAMED,
-        b"deck:1:1: no rule names this heading; there are [limits] and [[route]]: [[routes]]\n",
+        b"deck:1:1: no rule names this heading; there are [limits], [[number]] and [[route]]: [[routes]]\n",
     ),
     (&["--all", "--name", "t"], HEADINGS, ALL_HEADINGS),
 ];
@@ -438,17 +438,17 @@ const CALLS: &[Page] = &[
     (
         &["-"],
         MISNAMED,
-        b"deck:1:1: no rule names this heading; there are [limits] and [[route]]: [[routes]]\n",
+        b"deck:1:1: no rule names this heading; there are [limits], [[number]] and [[route]]: [[routes]]\n",
     ),
     (
         &["two\nlines"],
         FAULTY,
-        b"two?lines:1:1: no rule names this heading; there are [limits] and [[route]]: [[routes]]\n",
+        b"two?lines:1:1: no rule names this heading; there are [limits], [[number]] and [[route]]: [[routes]]\n",
     ),
     (
         &["two\nlines", "--name", "\x1b[7m\u{85}\u{e9}"],
         FAULTY,
-        b"?[7m?\xc3\xa9:1:1: no rule names this heading; there are [limits] and [[route]]: [[routes]]\n",
+        b"?[7m?\xc3\xa9:1:1: no rule names this heading; there are [limits], [[number]] and [[route]]: [[routes]]\n",
     ),
     (&["--version"], PASSED_OVER, b"mfcheck 0.5\n"),
 ];

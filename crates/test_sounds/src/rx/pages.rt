@@ -1,10 +1,11 @@
 // The page of a sound that xb_sound wrote.
 use crate::rx::calling::Mfrx;
+use crate::tandem::statuses::Mftandem;
 use sha1::Sha1;
 use std::alloc::Global;
 use std::test::Fail;
-use test_kit::attended;
 use test_kit::marks::keying;
+use test_kit::{Gives, attended, check_status};
 use xb_sound::{Cadence, write_wav};
 
 // The page of two keyings, worked out by hand.
@@ -65,10 +66,10 @@ const OBJECT: &[u8] =
 // The entry of the first of them as an object, and that of the second. The first ST begins at 940 ms and lasts 67.5, and
 // the second at 1,880.
 const FIRST_ENTRY: &[u8] =
-    b"{\"doubts\":[],\"entry\":1,\"from_ms\":500,\"keys\":[\"KP\",\"5\",\"0\",\"ST\"],\"sent\":\"50\",\"to_ms\":1007}\n";
+    b"{\"doubts\":[],\"entry\":1,\"from_ms\":500,\"keys\":[\"KP\",\"5\",\"0\",\"ST\"],\"sent\":\"50\",\"to_ms\":1007}";
 
 const SECOND_ENTRY: &[u8] =
-    b"{\"doubts\":[],\"entry\":2,\"from_ms\":1575,\"keys\":[\"KP\",\"1\",\"ST\"],\"sent\":\"1\",\"to_ms\":1947}\n";
+    b"{\"doubts\":[],\"entry\":2,\"from_ms\":1575,\"keys\":[\"KP\",\"1\",\"ST\"],\"sent\":\"1\",\"to_ms\":1947}";
 
 // Of the first of them, from 2027-12-31 20:59:58.75 three hours behind UTC on, the first object and the last: the times
 // of day are reckoned with Python's datetime.
@@ -76,7 +77,7 @@ const TIMED_OBJECT: &[u8] = b"{\"at\":\"2027-12-31T23:59:59.25Z\",\"at_ms\":500,
 
 const TIMED_ENTRY: &[u8] =
     b"{\"doubts\":[],\"entry\":1,\"from\":\"2027-12-31T23:59:59.25Z\",\"from_ms\":500,\
-\"keys\":[\"KP\",\"5\",\"0\",\"ST\"],\"sent\":\"50\",\"to\":\"2027-12-31T23:59:59.757Z\",\"to_ms\":1007}\n";
+\"keys\":[\"KP\",\"5\",\"0\",\"ST\"],\"sent\":\"50\",\"to\":\"2027-12-31T23:59:59.757Z\",\"to_ms\":1007}";
 
 // The fault where the ST ends after the last instant that there is.
 const LATE: &[u8] =
@@ -126,6 +127,8 @@ struct Spoilt {
     told: &'static [u8],
     // The object of its entry.
     object: &'static [u8],
+    // The page of the next office, which has no route.
+    onward: &'static [u8],
 }
 
 // By the times above its 5 ends at 737.5 ms, and its ST begins at 940 and ends at 1007.5. The second receiver says
@@ -138,7 +141,8 @@ const SPOILT: &[Spoilt] = &[
         page: b"0000 1 KEYED 0000 KP:1100+1700 5:900+1300 ST:1500+1700\nKEYED 1 REFUSED 0\n",
         told: b"mfrx: entry 1 at 0.500 s: 202 ms between its keys 2 and 3, where 67 are usual: one may be missing\n",
         object: b"{\"doubts\":[{\"key\":3,\"kind\":\"LONG_GAP\",\"may_be\":\"MISSING\",\"ms\":202,\"usual_ms\":67}],\
-\"entry\":1,\"from_ms\":500,\"keys\":[\"KP\",\"5\",\"ST\"],\"sent\":\"5\",\"to_ms\":1007}\n",
+\"entry\":1,\"from_ms\":500,\"keys\":[\"KP\",\"5\",\"ST\"],\"sent\":\"5\",\"to_ms\":1007}",
+        onward: b"0000 1 REFUSED MUTILATED 1\nKEYED 0 REFUSED 1\n",
     },
     // from 833 to 925 ms: the end of its 0
     Spoilt {
@@ -147,7 +151,8 @@ const SPOILT: &[Spoilt] = &[
         page: b"0000 1 KEYED 0000 KP:1100+1700 5:900+1300 0:1300+1500 ST:1500+1700\nKEYED 1 REFUSED 0\n",
         told: b"mfrx: entry 1 at 0.500 s: its key 3 lasts 30 ms, where 67 are usual: one may be too many\n",
         object: b"{\"doubts\":[{\"key\":3,\"kind\":\"SHORT_KEY\",\"may_be\":\"EXTRA\",\"ms\":30,\"usual_ms\":67}],\
-\"entry\":1,\"from_ms\":500,\"keys\":[\"KP\",\"5\",\"0\",\"ST\"],\"sent\":\"50\",\"to_ms\":1007}\n",
+\"entry\":1,\"from_ms\":500,\"keys\":[\"KP\",\"5\",\"0\",\"ST\"],\"sent\":\"50\",\"to_ms\":1007}",
+        onward: b"0000 1 REFUSED MUTILATED 2\nKEYED 0 REFUSED 1\n",
     },
     // from 970 to 1010 ms: the end of its ST
     Spoilt {
@@ -156,7 +161,8 @@ const SPOILT: &[Spoilt] = &[
         page: b"0000 1 KEYED 0000 KP:1100+1700 5:900+1300 0:1300+1500 ST:1500+1700\nKEYED 1 REFUSED 0\n",
         told: b"mfrx: entry 1 at 0.500 s: its key 4 lasts 30 ms, where 67 are usual: it may be cut\n",
         object: b"{\"doubts\":[{\"key\":4,\"kind\":\"SHORT_KEY\",\"may_be\":\"CUT\",\"ms\":30,\"usual_ms\":67}],\
-\"entry\":1,\"from_ms\":500,\"keys\":[\"KP\",\"5\",\"0\",\"ST\"],\"sent\":\"50\",\"to_ms\":970}\n",
+\"entry\":1,\"from_ms\":500,\"keys\":[\"KP\",\"5\",\"0\",\"ST\"],\"sent\":\"50\",\"to_ms\":970}",
+        onward: b"0000 1 REFUSED MUTILATED 2\nKEYED 0 REFUSED 1\n",
     },
 ];
 
@@ -180,6 +186,19 @@ fn heard_in(alloc: Global, file: &[u8], options: &[&str]) -> Result<(Vec<u8>, Ve
     heard_by(alloc, file, options, 0)
 }
 
+// The object of the last entry, which comes just before that of its ST.
+fn last_entry(objects: &[u8]) -> &[u8] {
+    let mut before = &objects[..0];
+    let mut last = before;
+    let mut ended = before;
+    for line in objects.split(|byte| *byte == b'\n') {
+        before = last;
+        last = ended;
+        ended = line;
+    }
+    before
+}
+
 // Fails where a spoilt file is heard otherwise.
 fn check_spoilt(alloc: Global, file: &[u8], spoilt: &Spoilt) -> Result<(), Fail> {
     let mut silenced = Vec::new(alloc);
@@ -192,10 +211,11 @@ fn check_spoilt(alloc: Global, file: &[u8], spoilt: &Spoilt) -> Result<(), Fail>
         return Err("another page".into());
     }
     let (objects, none) = heard_in(alloc, &silenced, &["--json"])?;
-    if !objects.ends_with(spoilt.object) || !none.is_empty() {
+    if last_entry(&objects) != spoilt.object || !none.is_empty() {
         return Err("another object".into());
     }
-    Ok(())
+    let onward = Gives::page(spoilt.onward);
+    check_status(alloc, &Mftandem, &["none"], &objects, onward)
 }
 
 #[test]
@@ -240,9 +260,9 @@ fn writes_the_page_and_tells_each_key(rt: HostRuntime) -> Result<(), Fail> {
     }
     let objects = written(rt.alloc(), NUMBERS, &["--json"], 0)?;
     assert!(rt; objects.starts_with(OBJECT));
-    assert!(rt; objects.ends_with(SECOND_ENTRY));
+    assert!(rt; last_entry(&objects) == SECOND_ENTRY);
     let first = written(rt.alloc(), &[&[5, 0]], &["--json"], 0)?;
-    assert!(rt; first.ends_with(FIRST_ENTRY));
+    assert!(rt; last_entry(&first) == FIRST_ENTRY);
     Ok(())
 }
 
@@ -262,7 +282,7 @@ fn tells_times_of_day(rt: HostRuntime) -> Result<(), Fail> {
     let since = ["--json", "--since", "2027-12-31T20:59:58.75-03:00"];
     let (objects, _) = heard_in(alloc, &file, &since)?;
     assert!(rt; objects.starts_with(TIMED_OBJECT));
-    assert!(rt; objects.ends_with(TIMED_ENTRY));
+    assert!(rt; last_entry(&objects) == TIMED_ENTRY);
     let late = ["--json", "--since", "9999-12-30T22:00:00Z"];
     let (objects, told) = heard_by(alloc, &file, &late, 1)?;
     assert!(rt; objects.split(|byte| *byte == b'\n').count() == 4);

@@ -11,7 +11,18 @@ fmt \x10\0\0\0\x01\0\x01\0\x40\x1f\0\0\x80\x3e\0\0\x02\0\x10\0data\x04\0\0\0\0\0
 const CUT: &[u8] = b"RIFF\x34\0\0\0WAVELIST\x03\0\0\0abc\0\
 fmt \x10\0\0\0\x01\0\x01\0\x40\x1f\0\0\x80\x3e\0\0\x02\0\x10\0data\x04\0\0\0\0\0";
 
-// What is told of that.
+// The same file with a chunk after its samples, and with two samples more.
+const CHUNK: &[u8] = b"RIFF\x34\0\0\0WAVELIST\x03\0\0\0abc\0\
+fmt \x10\0\0\0\x01\0\x01\0\x40\x1f\0\0\x80\x3e\0\0\x02\0\x10\0data\x04\0\0\0\0\0\0\0LIST\x03\0\0\0abc\0";
+
+const MORE: &[u8] = b"RIFF\x34\0\0\0WAVELIST\x03\0\0\0abc\0\
+fmt \x10\0\0\0\x01\0\x01\0\x40\x1f\0\0\x80\x3e\0\0\x02\0\x10\0data\x04\0\0\0\0\0\0\0\x10\x27\xf0\xd8";
+
+// What is told of those.
+const MORE_FOLLOWS: &[u8] =
+    b"mfrx: more follows than the head of the sound counts: sox --ignore-length IN.wav OUT.wav\n";
+
+// What is told of the one that is cut.
 const CUT_OFF: &[u8] =
     b"mfrx: the sound is cut off: 1 samples of 8000 a second are missing at its end\n";
 
@@ -57,6 +68,7 @@ const CASES: &[Case] = &[
         b"mfrx: no key is heard in 0.001 s: silence\n",
     ),
     (&["--channel", "1", "--json"], FILE, 0, b"", SILENCE),
+    (&[], CHUNK, 0, b"KEYED 0 REFUSED 0\n", SILENCE),
     (
         &["--format=s16", "--channels", "2", "--channel", "3"],
         TWO,
@@ -92,8 +104,41 @@ const FAULTS: &[Fault] = &[
         b"KEYED 0 REFUSED 0\n",
         b"mfrx: the sound is no WAV file that can be heard: its first 12 bytes are not those of a WAV file\n",
     ),
+    // forms that are no WAV, by their first bytes
+    (
+        &[],
+        b"fLaC\0\0\0\x22\x10\0\x10\0\0\0",
+        b"mfrx: the sound is no WAV file that can be heard: it is FLAC: sox IN.flac -r 8000 -b 16 OUT.wav\n",
+    ),
+    (
+        &[],
+        b"ID3",
+        b"mfrx: the sound is no WAV file that can be heard: it is MP3: ffmpeg -i IN.mp3 -ar 8000 OUT.wav\n",
+    ),
+    (
+        &["--tones"],
+        b"\xff\xfb\x90\xc4\0\0\0\0\0\0\0\0\0\0",
+        b"mfrx: the sound is no WAV file that can be heard: it is MP3: ffmpeg -i IN.mp3 -ar 8000 OUT.wav\n",
+    ),
+    (
+        &[],
+        b"FORM\0\0\x40\x2eAIFFCOMM",
+        b"mfrx: the sound is no WAV file that can be heard: it is AIFF: sox IN.aiff -r 8000 -b 16 OUT.wav\n",
+    ),
+    (
+        &[],
+        b"RF64\xff\xff\xff\xffWAVEds64",
+        b"mfrx: the sound is no WAV file that can be heard: it is RF64: sox IN.wav -r 8000 -b 16 OUT.wav\n",
+    ),
+    (
+        &[],
+        b"OggS\0\x02\0\0\0\0\0\0\0\0",
+        b"mfrx: the sound is no WAV file that can be heard: it is Ogg: sox IN.ogg -r 8000 -b 16 OUT.wav\n",
+    ),
     (&["--svg"], CUT, CUT_OFF),
     (&["--html"], CUT, CUT_OFF),
+    (&[], MORE, MORE_FOLLOWS),
+    (&["--against", "page"], MORE, MORE_FOLLOWS),
     (
         &["--against", "damaged"],
         FILE,

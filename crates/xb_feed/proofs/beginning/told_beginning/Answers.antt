@@ -1,14 +1,16 @@
 use Rattle.std.proofs.Common.{rules, ◌≡◌, ◌∙◌, ◌++◌, ◌<◌, ◌≤◌, [], ℕ, List, None, Some, Err, Ok, true, false, nat_eq, ap, subst, sym, take, length, arith}
 use Rattle.std.proofs.KnownBytes.{Consumes-trans}
 use Rattle.std.proofs.lemmas.Bool.{eqb-true}
-use Rattle.std.specs.Prelude.{if◌then◌else◌, is_ok}
+use Rattle.std.specs.Prelude.{IfSome, if◌then◌else◌, is_ok}
 use Rattle.std.specs.Io.KnownBytes.{Consumes, IsAtEnd}
 use Rattle.xb_recording.specs.declared.beginning.Told.{Told}
 use Rattle.xb_recording.specs.declared.beginning.Told.TheVariants as tolds
 use Rattle.xb_recording.specs.Beginnings.{IsTold, form_told, tells_nothing_yet, why_untold}
 use Rattle.xb_recording.proofs.ToldWithin.{why_same}
 use Rattle.xb_feed.specs.declared.beginning.TheConstants.{MOST_BEGINNING_BYTES}
+use Rattle.xb_feed.specs.declared.fault.RecordingFault.{RecordingFault}
 use Rattle.xb_feed.specs.declared.fault.RecordingFault.TheVariants as faults
+use Rattle.xb_feed.specs.Beginnings.{IsUntold}
 use Rattle.xb_feed.proofs.ToldForms.{all_are, beginning_tells, few_read, has_four, more_read, not_yet, tells_form, untold_form, untold_long, untold_memory, untold_read}
 use Rattle.xb_feed.proofs.beginning.told_beginning.Goals as goal
 
@@ -138,6 +140,11 @@ loop-buffer-smaller g c =
 
 pub returns-clause-untold : goal.returns-clause-untold
 returns-clause-untold g c =
-    let long : MOST_BEGINNING_BYTES ≤ length c.loop-buffer.bytes.items = search rules in
-    untold_long (g.R.Read.remaining c.args.input.now) (g.R.Read.remaining c.loop-buffer.input) c.loop-buffer.bytes.items
-    c.loop-buffer.invariant.0 long c.loop-buffer.invariant.1
+    let input = g.R.Read.remaining c.args.input.now in
+    let bytes : List ℕ = c.loop-buffer.bytes.items in
+    let long : MOST_BEGINNING_BYTES ≤ length bytes = search rules in
+    let U : RecordingFault → Type 0 = λ fault. IfSome input (λ text. IsUntold text fault) in
+    let fault : c.untold_by.result ≡ faults.Beginning (why_untold (take MOST_BEGINNING_BYTES bytes)) =
+    c.untold_by.ensures ∙ ap (λ b. faults.Beginning (why_untold (take MOST_BEGINNING_BYTES b))) c.deref-2.ensures.value in
+    subst U (sym fault)
+    (untold_long input (g.R.Read.remaining c.loop-buffer.input) bytes c.loop-buffer.invariant.0 long c.loop-buffer.invariant.1)

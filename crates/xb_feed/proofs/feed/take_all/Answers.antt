@@ -1,4 +1,4 @@
-use Rattle.std.proofs.Common.{◌≡◌, Err, refl, rules, take, arith}
+use Rattle.std.proofs.Common.{◌≡◌, Err, rules, take, arith}
 use Rattle.xb_feed.specs.declared.fault.RecordingFault.TheVariants as faults
 use Rattle.xb_feed.proofs.Pieces.{fed_fault, fed_read, feeds_none, feeds_piece}
 use Rattle.xb_feed.proofs.feed.take_all.Goals as goal

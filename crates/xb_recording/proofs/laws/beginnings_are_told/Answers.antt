@@ -18,4 +18,9 @@ returns c = record {
   of_others = refl;
   archive = refl;
   why = refl;
+  empty = refl;
+  of_a_deck = refl;
+  of_rows = refl;
+  of_semicolons = refl;
+  of_a_header = refl;
 }

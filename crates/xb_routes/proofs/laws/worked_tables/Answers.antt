@@ -1,6 +1,8 @@
 use Rattle.std.proofs.Common.{refl}
 use Rattle.std.specs.Str.{chars, is_utf8}
 use Rattle.toml.proofs.OnLiterals.{toml_on_literals}
+use Rattle.xb_model.specs.NumberEntries.{lengths_by}
+use Rattle.xb_routes.specs.Numbering.{numbers_from}
 use Rattle.xb_routes.specs.Text.{routes_from}
 use Rattle.xb_routes.proofs.laws.worked_tables.Goals as goal
 
@@ -40,4 +42,40 @@ returns-clause-plans_and_limits c = record {
   makes_out_of_order = refl;
   pause_not_under_timeout = refl;
   first_of_two = refl;
+}
+
+pub returns-clause-numbers : goal.returns-clause-numbers
+unfolding toml_on_literals routes_from numbers_from is_utf8 chars
+returns-clause-numbers c = record {
+  most_numbers = refl;
+  begins_digits = refl;
+  lengths = refl;
+  of_a_club = refl;
+  both = refl;
+  plan_first = refl;
+  not_an_array = refl;
+  no_digits = refl;
+  a_letter = refl;
+  four_digits = refl;
+  no_length = refl;
+  eleven = refl;
+  short = refl;
+  twice = refl;
+  outgrown = refl;
+  alone_first = refl;
+}
+
+pub returns-clause-codes_of_lengths : goal.returns-clause-codes_of_lengths
+unfolding lengths_by
+returns-clause-codes_of_lengths c = record {
+  operator = refl;
+  one_digit = refl;
+  whole_number = refl;
+  longer_than_numbers = refl;
+  two_for_one = refl;
+  seven = refl;
+  ten_digits = refl;
+  no_digit = refl;
+  told_length = refl;
+  untold_length = refl;
 }

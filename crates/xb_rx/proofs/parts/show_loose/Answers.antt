@@ -1,4 +1,4 @@
-use Rattle.std.proofs.Common.{◌≡◌, ◌≤◌, ◌∙◌, ◌+◌, ◌∷◌, [], List, Some, ap, ap₂, arith, drop, length, refl, string_bytes, subst, sym}
+use Rattle.std.proofs.Common.{◌≡◌, ◌≤◌, ◌∙◌, ◌+◌, ◌∷◌, List, Some, ap, ap₂, arith, drop, length, refl, string_bytes, subst, sym}
 use Rattle.std.proofs.lemmas.List.{drop_all}
 use Rattle.xb_measured.specs.declared.heard.Heard.{Heard}
 use Rattle.xb_shown.specs.declared.heading.Title.TheVariants as title

@@ -1,4 +1,4 @@
-use Rattle.std.proofs.Common.{◌≡◌, ◌∙◌, ap, ap₂, subst, sym}
+use Rattle.std.proofs.Common.{◌≡◌, ◌∙◌, ap₂, subst}
 use Rattle.xb_clock.specs.Clocks.{TellsTime, text_in, time_at}
 use Rattle.xb_clock.proofs.TimesTold.{told-time}
 use Rattle.xb_measured.specs.DoubtLines.{began_ms}

@@ -3,7 +3,6 @@ use Rattle.std.specs.Prelude.{◌<◌, Err, IfErr, is_some}
 use Rattle.std.specs.List.{insert}
 use Rattle.std.specs.Result.{result_map_both}
 use Rattle.std.proofs.lemmas.List.Sorted.{answers_always}
-use Rattle.xb_model.specs.Plans.{plan_of_digits}
 use Rattle.xb_model.specs.Routing.{CodedRoute}
 use Rattle.xb_routes.specs.declared.fault.RouteFault.{RouteFault}
 use Rattle.xb_routes.specs.declared.fault.RouteFault.TheVariants as fault
@@ -18,7 +17,7 @@ use Rattle.xb_routes.proofs.CodeNumbers.{all-push}
 use Rattle.xb_structs.specs.declared.route.PlainRoute.{PlainRoute}
 use Rattle.xb_structs.specs.Filling.{HasPlace, IsNotAdded, next_route}
 use Rattle.xb_structs.specs.Routes.{AreRoutes, numbered}
-use Rattle.xb_structs.specs.Tables.{Holds}
+use Rattle.xb_structs.specs.Tables.{Holds, plan_in}
 use Rattle.xb_structs.proofs.Adding.{any-numbered, chosen, next-of}
 use Rattle.xb_structs.proofs.Opening.{one-more}
 use Rattle.xb_structs.proofs.Searching.{IsAt, IsGap, found_at, found_in_gap, rise_inserted, searched, with_inserted}
@@ -26,7 +25,7 @@ use Rattle.xb_structs.proofs.filling.add.Goals as goal
 
 pub returns-in_err-entry_of-clause-refused : goal.returns-in_err-entry_of-clause-refused
 returns-in_err-entry_of-clause-refused c =
-    let has : plan_of_digits c.args.table.now.plan ≡ Some c.in-Some.plan = sym c.of_digits.ensures ∙ c.in-Some.is in
+    let has : plan_in c.args.table.now ≡ Some c.in-Some.plan = sym c.plan_of.ensures ∙ c.in-Some.is in
     let room : c.args.table.now.count < MOST_ROUTES = search rules in
     let place : HasPlace c.args.table.now = record { plan = c.in-Some.plan; has = has; room = room } in
     let says : route_of c.in-Some.plan c.args.i (Some (keys_in c.args.words)) ≡ Err c.in_err-entry_of.field-0.0 =
@@ -40,7 +39,7 @@ returns-in_default-binary_search_by_key-clause-refused c =
     let routes = c.in-Some-routes_of.routes.now in
     let entry = c.in_ok-entry_of.field-0 in
     let code = c.plain_route-route.result.code in
-    let has : plan_of_digits c.args.table.now.plan ≡ Some c.in-Some.plan = sym c.of_digits.ensures ∙ c.in-Some.is in
+    let has : plan_in c.args.table.now ≡ Some c.in-Some.plan = sym c.plan_of.ensures ∙ c.in-Some.is in
     let writes : route_of c.in-Some.plan c.args.i (Some (keys_in c.args.words)) ≡ Ok (coded entry) =
     sym c.entry_of.ensures ∙ ap (λ (r : Result Entry RouteFault). result_map_both coded (λ f. f) r) c.in_ok-entry_of.was in
     let room : c.args.table.now.count < MOST_ROUTES = search rules in
@@ -64,7 +63,7 @@ returns-clause-added c =
     let routes = c.in-Some-routes_of.routes.now in
     let entry = c.in_ok-entry_of.field-0 in
     let route = c.plain_route-route.result in
-    let has : plan_of_digits c.args.table.now.plan ≡ Some c.in-Some.plan = sym c.of_digits.ensures ∙ c.in-Some.is in
+    let has : plan_in c.args.table.now ≡ Some c.in-Some.plan = sym c.plan_of.ensures ∙ c.in-Some.is in
     let writes : route_of c.in-Some.plan c.args.i (Some (keys_in c.args.words)) ≡ Ok (coded entry) =
     sym c.entry_of.ensures ∙ ap (λ (r : Result Entry RouteFault). result_map_both coded (λ f. f) r) c.in_ok-entry_of.was in
     let room : c.args.table.now.count < MOST_ROUTES = search rules in

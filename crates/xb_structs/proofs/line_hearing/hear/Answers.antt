@@ -7,7 +7,7 @@ use Rattle.xb_structs.specs.declared.table.PlainTable.{PlainTable}
 use Rattle.xb_structs.specs.Hearing.{HearsSignal, IsNotHeard, IsSignal}
 use Rattle.xb_structs.specs.HeardSignals.{signal_in}
 use Rattle.xb_structs.specs.Rows.{line_in}
-use Rattle.xb_structs.specs.Tables.{IsOpen}
+use Rattle.xb_structs.specs.Tables.{IsOpen, plan_by}
 use Rattle.xb_structs.proofs.HeardSignals.{line_is, opened-hears, opened-lacks, unfit}
 use Rattle.xb_structs.proofs.line_hearing.hear.Goals as goal
 
@@ -35,15 +35,15 @@ returns-in-Ok-clause-hears c =
     let is_open = c.in-Some.ensures.variant.0 refl in
     let line : line_in c.args.number ≡ Some c.in-Some-line_of.number = sym c.line_of.ensures ∙ c.in-Some-line_of.is in
     let same = line_is c.args.number c.in-Some-line_of.number line in
-    opened-hears c.args.table.now c.in-Some.parts.plan c.in-Some.parts.routes.now c.in-Some.ensures.plan c.in-Some.ensures.routes
+    opened-hears c.args.table.now (plan_by c.in-Some.parts.plan) c.in-Some.parts.routes.now c.in-Some.ensures.plan c.in-Some.ensures.routes
     c.args.number c.args.line.now c.hear_signal.new.line c.args.heard c.in-Some-signal_of.signal c.hear_signal.new.room c.in-Ok.count
     is_open (line ∙ ap Some same) (sym c.is_fit.ensures ∙ c.in_ok-is_fit.was) (sym c.signal_of.ensures ∙ c.in-Some-signal_of.is)
-    (λ all limits are. subst (λ n. HearsSignal (table_by all c.in-Some.parts.plan limits) n c.args.line.now c.hear_signal.new.line c.in-Some-signal_of.signal c.hear_signal.new.room c.in-Ok.count) same (c.in-Ok.ensures.hears all limits are))
+    (λ all limits are. subst (λ n. HearsSignal (table_by all (plan_by c.in-Some.parts.plan) limits) n c.args.line.now c.hear_signal.new.line c.in-Some-signal_of.signal c.hear_signal.new.room c.in-Ok.count) same (c.in-Ok.ensures.hears all limits are))
 
 pub returns-in-Err-clause-refused : goal.returns-in-Err-clause-refused
 returns-in-Err-clause-refused c =
     let is = is-signal c.args.table.now c.args.number c.in-Some-line_of.number c.args.heard c.in-Some-signal_of.signal
     (c.in-Some.ensures.variant.0 refl) (sym c.line_of.ensures ∙ c.in-Some-line_of.is)
     (sym c.signal_of.ensures ∙ c.in-Some-signal_of.is) in
-    opened-lacks c.args.table.now c.in-Some.parts.plan c.in-Some.parts.routes.now c.in-Some.ensures.plan c.in-Some.ensures.routes
+    opened-lacks c.args.table.now (plan_by c.in-Some.parts.plan) c.in-Some.parts.routes.now c.in-Some.ensures.plan c.in-Some.ensures.routes
     c.args.number c.args.line.now c.args.heard _ is (sym c.is_fit.ensures ∙ c.in_ok-is_fit.was) c.in-Err.ensures.enough c.in-Err.ensures.refused

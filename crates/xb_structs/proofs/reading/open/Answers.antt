@@ -3,8 +3,8 @@ use Rattle.std.proofs.lemmas.List.{length-map}
 use Rattle.xb_model.specs.LawfulLimits.{IsLawful}
 use Rattle.xb_routes.specs.Coded.{coded}
 use Rattle.xb_structs.specs.Routes.{Rise}
-use Rattle.xb_model.specs.Plans.{plan_of_digits}
-use Rattle.xb_structs.proofs.Opening.{few-routes, plan-back}
+use Rattle.xb_structs.specs.Tables.{plan_said}
+use Rattle.xb_structs.proofs.Opening.{few-routes}
 use Rattle.xb_structs.proofs.reading.open.Goals as goal
 
 pub returns-then-len-gt-MOST_ROUTES-clause-refused : goal.returns-then-len-gt-MOST_ROUTES-clause-refused
@@ -19,7 +19,7 @@ returns-clause-opened c =
       c.in_ok-read.read,
       c.in_ok-read.ensures.ok,
       record {
-        plan = ap plan_of_digits c.plan_number-table.ensures ∙ plan-back c.plan.result ∙ ap Some c.plan.ensures;
+        plan = ap (λ n. plan_said n c.lengths_beside-table.result) c.plan_number-table.ensures ∙ c.lengths_beside-table.ensures ∙ ap Some c.plan-plan.ensures;
         limits = c.limits-limits.ensures.value;
         lawful = subst IsLawful c.limits-limits.ensures.value c.limits-limits.ensures.lawful;
         count = omega (arith, c.if-len-gt-MOST_ROUTES.false, c.len-2.ensures, c.len.ensures);

@@ -15,7 +15,7 @@ loop-before-init g c =
       form = refl;
       line = refl;
       table = refl;
-      so_far = so_far-start office.register.timeout_ms office (g.R.Read.remaining c.args.keys.now) start out
+      so_far = so_far-start office.register.timeout_ms c.args.trusts office (g.R.Read.remaining c.args.keys.now) start out
           (fresh-written office start out c.requires.fresh c.in_ok-begin.ensures.whole);
     }
 
@@ -25,8 +25,8 @@ returns-in_err-begin-clause-page g c =
     let start = g.W.Write.contents c.args.out.now in
     let out = g.W.Write.contents c.begin.new.out in
     let p = err_from_is_err_and c.from_residual.result c.from_residual.ensures.1 in
-    subst (λ r. Relays office (g.R.Read.remaining c.args.keys.now) r start out) (sym (p.1 ∙ ap Err p.2))
-    (begun-none office.register.timeout_ms office c.in_err-begin.field-0.0 (g.R.Read.remaining c.args.keys.now) start out
+    subst (λ r. Relays office c.args.trusts (g.R.Read.remaining c.args.keys.now) r start out) (sym (p.1 ∙ ap Err p.2))
+    (begun-none office.register.timeout_ms c.args.trusts office c.in_err-begin.field-0.0 (g.R.Read.remaining c.args.keys.now) start out
     c.in_err-begin.ensures.beginning)
 
 pub returns-in_err-begin-clause-kind : goal.returns-in_err-begin-clause-kind
@@ -43,9 +43,9 @@ returns-in_err-next_line-clause-page g c =
     let out = g.W.Write.contents c.loop-before.out in
     let so = c.loop-before.invariant in
     let p = err_from_is_err_and c.from_residual-in_err-next_line.result c.from_residual-in_err-next_line.ensures.1 in
-    subst (λ r. Relays office text r start out) (sym (p.1 ∙ ap Err p.2))
-    (comes-same limit office c.loop-before.office text _ start out so.form so.line so.table
-    (so_far-read (c.loop-before.before + 1) limit c.in_err-next_line.field-0.0 c.loop-before.office text
+    subst (λ r. Relays office c.args.trusts text r start out) (sym (p.1 ∙ ap Err p.2))
+    (comes-same limit c.args.trusts office c.loop-before.office text _ start out so.form so.line so.table
+    (so_far-read (c.loop-before.before + 1) limit c.args.trusts c.in_err-next_line.field-0.0 c.loop-before.office text
     (g.R.Read.remaining c.loop-before.keys) start out so.so_far))
 
 pub returns-in_err-take_line-clause-page : goal.returns-in_err-take_line-clause-page
@@ -65,11 +65,11 @@ returns-in_err-take_line-clause-page g c =
     let same = c.take_line.ensures.same in
     let is = subst (λ more. ReadsLine rest left line (Ok more)) c.if-branch.true c.in_ok-next_line.ensures in
     let p = err_from_is_err_and c.from_residual-in_err-take_line.result c.from_residual-in_err-take_line.ensures.1 in
-    subst (λ r. Relays office text r start out) (sym (p.1 ∙ ap Err p.2))
-    (comes-same limit office new text _ start out (same.0 ∙ so.form) (same.1 ∙ so.line) (same.2 ∙ so.table)
-    (so_far-fault n limit c.in_err-take_line.field-0.0 c.loop-before.office new line text rest left start mid out so.so_far is
-    (λ keys has. subst (λ l. TakesLine limit new keys n l (Err c.in_err-take_line.field-0.0) start out) c.deref.ensures.value
-    (c.in_err-take_line.ensures.written limit keys start has))))
+    subst (λ r. Relays office c.args.trusts text r start out) (sym (p.1 ∙ ap Err p.2))
+    (comes-same limit c.args.trusts office new text _ start out (same.0 ∙ so.form) (same.1 ∙ so.line) (same.2 ∙ so.table)
+    (so_far-fault n limit c.args.trusts c.in_err-take_line.field-0.0 c.loop-before.office new line text rest left start mid out so.so_far is
+    (λ signs has. subst (λ l. TakesLine limit c.args.trusts new signs n l (Err c.in_err-take_line.field-0.0) start out) c.deref.ensures.value
+    (c.in_err-take_line.ensures.written limit signs start has))))
 
 pub returns-in_err-end-clause-page : goal.returns-in_err-end-clause-page
 returns-in_err-end-clause-page g c =
@@ -86,10 +86,10 @@ returns-in_err-end-clause-page g c =
     let out = g.W.Write.contents c.end.new.out in
     let is = subst (λ more. ReadsLine rest left line (Ok more)) c.if-branch.false c.in_ok-next_line.ensures in
     let p = err_from_is_err_and c.from_residual-in_err-end.result c.from_residual-in_err-end.ensures.1 in
-    subst (λ r. Relays office text r start out) (sym (p.1 ∙ ap Err p.2))
-    (comes-same limit office c.loop-before.office text _ start out so.form so.line so.table
-    (so_far-end-fault n limit c.in_err-end.field-0.0 c.loop-before.office line text rest left start mid out so.so_far is
-    (λ keys has. c.in_err-end.ensures limit keys start has)))
+    subst (λ r. Relays office c.args.trusts text r start out) (sym (p.1 ∙ ap Err p.2))
+    (comes-same limit c.args.trusts office c.loop-before.office text _ start out so.form so.line so.table
+    (so_far-end-fault n limit c.args.trusts c.in_err-end.field-0.0 c.loop-before.office line text rest left start mid out so.so_far is
+    (λ signs has. c.in_err-end.ensures limit signs start has)))
 
 pub returns-else-branch-clause-page : goal.returns-else-branch-clause-page
 returns-else-branch-clause-page g c =
@@ -105,9 +105,9 @@ returns-else-branch-clause-page g c =
     let n = c.loop-before.before + 1 in
     let out = g.W.Write.contents c.end.new.out in
     let is = subst (λ more. ReadsLine rest left line (Ok more)) c.if-branch.false c.in_ok-next_line.ensures in
-    comes-same limit office c.loop-before.office text _ start out so.form so.line so.table
-    (so_far-end n limit c.loop-before.office line text rest left start mid out so.so_far is
-    c.in_ok-end.field-0 (λ keys has. c.in_ok-end.ensures limit keys start has))
+    comes-same limit c.args.trusts office c.loop-before.office text _ start out so.form so.line so.table
+    (so_far-end n limit c.args.trusts c.loop-before.office line text rest left start mid out so.so_far is
+    c.in_ok-end.field-0 (λ signs has. c.in_ok-end.ensures limit signs start has))
 
 pub loop-before-preserved : goal.loop-before-preserved
 loop-before-preserved g c =
@@ -129,9 +129,9 @@ loop-before-preserved g c =
       form = same.0 ∙ so.form;
       line = same.1 ∙ so.line;
       table = same.2 ∙ so.table;
-      so_far = so_far-line n limit c.loop-before.office new line text rest left start mid out so.so_far is
-          (λ keys has. subst (λ l. TakesLine limit new keys n l (Ok tt) start out) c.deref.ensures.value
-          (c.in_ok-take_line.ensures.written limit keys start has));
+      so_far = so_far-line n limit c.args.trusts c.loop-before.office new line text rest left start mid out so.so_far is
+          (λ signs has. subst (λ l. TakesLine limit c.args.trusts new signs n l (Ok tt) start out) c.deref.ensures.value
+          (c.in_ok-take_line.ensures.written limit signs start has));
     }
 
 pub returns-clause-page : goal.returns-clause-page
@@ -142,8 +142,8 @@ returns-clause-page g c =
     let start = g.W.Write.contents c.args.out.now in
     let out = g.W.Write.contents c.loop-before.out in
     let so = c.loop-before.invariant in
-    comes-same limit office c.loop-before.office text _ start out so.form so.line so.table
-    (so_far-many (c.loop-before.before + 1) limit c.loop-before.office text (g.R.Read.remaining c.loop-before.keys) start out
+    comes-same limit c.args.trusts office c.loop-before.office text _ start out so.form so.line so.table
+    (so_far-many (c.loop-before.before + 1) limit c.args.trusts c.loop-before.office text (g.R.Read.remaining c.loop-before.keys) start out
     (omega (arith, c.loop-before-test.false)) so.so_far)
 
 pub returns-in_err-next_line-clause-kind : goal.returns-in_err-next_line-clause-kind

@@ -8,5 +8,5 @@ invariant-loop-before g l = record {
   form : l.office.form ≡ l.initial.office.form;
   line : l.office.line ≡ l.initial.office.line;
   table : l.office.table ≡ l.initial.office.table;
-  so_far : IsSoFar (l.before + 1) l.initial.office.register.timeout_ms l.office (g.R.Read.remaining l.fn.keys) (g.R.Read.remaining l.keys) (g.W.Write.contents l.fn.out) (g.W.Write.contents l.out);
+  so_far : IsSoFar (l.before + 1) l.initial.office.register.timeout_ms l.trusts l.office (g.R.Read.remaining l.fn.keys) (g.R.Read.remaining l.keys) (g.W.Write.contents l.fn.out) (g.W.Write.contents l.out);
 }

@@ -1,6 +1,4 @@
-use Rattle.std.proofs.Common.{◌≡◌, ◌∙◌, ◌++◌, List, ℕ, ap, ap₂}
-use Rattle.xb_measured.specs.Receivers.{listed}
-use Rattle.xb_rx.specs.Listeners.{buttons_text, loudness_text}
+use Rattle.std.proofs.Common.{◌∙◌, ◌++◌, List, ℕ, ap₂}
 use Rattle.xb_rx.proofs.listener.Listener.quiet_text.Goals as goal
 
 pub returns : goal.returns

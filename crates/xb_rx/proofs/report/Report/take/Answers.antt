@@ -2,9 +2,9 @@ use Rattle.std.proofs.Common.{[], ◌++◌, sym, subst}
 use Rattle.xb_measured.specs.Receivers.{listed}
 use Rattle.xb_rx.specs.declared.report.Report.{Report}
 use Rattle.xb_rx.specs.Objects.{objected, objects_rest}
-use Rattle.xb_rx.specs.Timed.{timing_by, untimed}
+use Rattle.xb_rx.specs.Timed.{timing_by}
 use Rattle.xb_rx.specs.Pages.{Writes, page_told, page_rest, paged}
-use Rattle.xb_rx.specs.Reports.{IsReady, listing_rest, report_rest, reported, told_rest}
+use Rattle.xb_rx.specs.Reports.{listing_rest, report_rest, reported, told_rest}
 use Rattle.xb_rx.specs.Shown.{parts_rest, shown}
 use Rattle.xb_rx.specs.Styled.{WritesBy}
 use Rattle.xb_rx.proofs.Listings.{any-looks, nothing-told, page-late, page-ok, page-writes, page-writes-by}

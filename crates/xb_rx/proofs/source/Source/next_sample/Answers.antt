@@ -6,17 +6,13 @@ use Rattle.std.proofs.lemmas.Slice.{take-put_mid}
 use borrow.Rule.Slice.PartMut.{mid_of, put_mid}
 use Rattle.xb_rx.specs.Samples.{group_bytes}
 use Rattle.xb_rx.specs.Streams.{HearsGroup}
-use Rattle.xb_rx.proofs.Sounds.{gives-cut, gives-end, gives-next, gives-none}
+use Rattle.xb_rx.proofs.Sounds.{gives-cut, gives-end, gives-next}
 use Rattle.xb_rx.proofs.source.Source.next_sample.Goals as goal
 
 -- as many bytes are asked for as a group has
 whole : (size : ℕ) (old buffer : List ℕ) → size ≤ length old → length buffer ≡ length (mid_of 0 (size - 0) old)
     → length buffer ≡ size
 whole size old buffer room same = omega (arith, same, length-take {A = ℕ}, length-drop {A = ℕ}, room)
-
-pub returns-then-self-eq0-clause-sample : goal.returns-then-self-eq0-clause-sample
-returns-then-self-eq0-clause-sample g c =
-    gives-none c.args.self.now.form _ _ c.args.self.now.said c.args.self.now.counted _ _ (omega arith)
 
 -- the bytes of a group were read, and the window went on by it
 pub returns-in-Ok-clause-sample : goal.returns-in-Ok-clause-sample
@@ -38,7 +34,7 @@ returns-in-Ok-clause-sample g c =
     let Hears : List ℕ → Type 0 = λ bytes. HearsGroup form bytes before c.hear.result after in
     let Heard : ℤ → Type 0 = λ sample. HearsGroup form buffer before sample after in
     gives-next form before buffer c.in-Ok.count c.requires some (long ∙ size-is) after c.args.self.now.said
-    (c.args.self.now.said - 1) c.args.self.now.counted x _ _ (subst Heard same (subst Hears group c.hear.ensures))
+    (c.args.self.now.said - 1) c.args.self.now.counted c.args.self.now.spare x _ _ (subst Heard same (subst Hears group c.hear.ensures))
     c.in-Ok.ensures.bytes (omega (arith, long, c.if-count-size.true)) (omega arith)
 
 pub returns-in-Ok-2-clause-sample : goal.returns-in-Ok-2-clause-sample
@@ -49,8 +45,8 @@ returns-in-Ok-2-clause-sample g c =
     let long = whole c.group_bytes-size.result c.args.self.now.group c.fill.new.buffer
     (omega (arith, c.group_bytes-size.ensures.bound)) c.fill.ensures.length in
     gives-cut form (take (7 * form.frames) c.args.self.now.window) c.fill.new.buffer c.in-Ok.count c.requires some
-    (long ∙ size-is) c.args.self.now.said c.args.self.now.counted _ _ _ c.in-Ok.ensures.bytes
-    (omega (arith, long, c.if-count-size.false, c.in-Ok.ensures.bytes.within)) c.if-self.true (omega arith)
+    (long ∙ size-is) c.args.self.now.said c.args.self.now.counted c.args.self.now.spare _ _ _ c.in-Ok.ensures.bytes
+    (omega (arith, long, c.if-count-size.false, c.in-Ok.ensures.bytes.within)) (omega arith) c.if-self.true
 
 pub returns-in-Ok-3-clause-sample : goal.returns-in-Ok-3-clause-sample
 returns-in-Ok-3-clause-sample g c =
@@ -60,5 +56,5 @@ returns-in-Ok-3-clause-sample g c =
     let long = whole c.group_bytes-size.result c.args.self.now.group c.fill.new.buffer
     (omega (arith, c.group_bytes-size.ensures.bound)) c.fill.ensures.length in
     gives-end form (take (7 * form.frames) c.args.self.now.window) c.fill.new.buffer c.in-Ok.count c.requires some
-    (long ∙ size-is) c.args.self.now.said c.args.self.now.counted _ _ _ c.in-Ok.ensures.bytes
-    (omega (arith, long, c.if-count-size.false, c.in-Ok.ensures.bytes.within)) c.if-self.false
+    (long ∙ size-is) c.args.self.now.said c.args.self.now.counted c.args.self.now.spare _ _ _ c.in-Ok.ensures.bytes
+    (omega (arith, long, c.if-count-size.false, c.in-Ok.ensures.bytes.within)) (omega arith) c.if-self.false

@@ -9,6 +9,6 @@ pub returns-clause-taken : goal.returns-clause-taken
 returns-clause-taken c =
     let office : Office = record { table = c.args.table; lines = c.in_ok-lines.lines; given = c.new.result.items } in
     taken-none office
-    (subst (λ (table : Table). IsLawful table.limits) c.table.view_is c.table.invariant)
+    (subst (λ (table : Table). IsLawful table.limits) c.table.view_is c.table.invariant.0)
     c.in_ok-lines.ensures.lines
     (λ k d h. let made = c.in_ok-lines.ensures.made k d h in search rules)

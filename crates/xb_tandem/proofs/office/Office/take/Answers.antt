@@ -1,14 +1,28 @@
-use Rattle.xb_incoming.specs.Machine.{told_by}
+use Rattle.std.proofs.Common.{Bool, ◌∷◌, [], ◌++◌, subst}
+use Rattle.std.specs.Option.{option_to_list}
+use Rattle.xb_incoming.specs.declared.key.TimedKey.{TimedKey}
+use Rattle.xb_incoming.specs.Machine.{HasTaken, told_by}
+use Rattle.xb_tandem.specs.Entries.{call_with}
+use Rattle.xb_tandem.specs.Signs.{keys_of}
+use Rattle.xb_tandem.specs.Written.{Tells}
 use Rattle.xb_tandem.proofs.Taken.{takes-none, takes-some}
 use Rattle.xb_tandem.proofs.office.Office.take.Goals as goal
 
 pub returns-in-Some-clause-written : goal.returns-in-Some-clause-written
-returns-in-Some-clause-written g c = λ limit keys start has.
-    takes-some limit c.args.self.now c.take.new.self keys c.args.key c.take.result start (g.W.Write.contents c.args.out.now) has
-    (c.take.ensures limit keys (told_by limit keys) has.taken) c.tell.new.self c.in-Some.outcome c.tell.result
-    (g.W.Write.contents c.tell.new.out) c.in-Some.is c.tell.ensures.same c.tell.ensures.told
+returns-in-Some-clause-written g c = λ limit signs start has.
+    let keys = keys_of signs in
+    let took = subst (λ (key : TimedKey). HasTaken limit c.take.new.self (keys ++ key ∷ []) (told_by limit keys ++ option_to_list c.take.result))
+    c.key.ensures (c.take.ensures limit keys (told_by limit keys) has.taken) in
+    takes-some limit c.args.self.now c.take.new.self signs c.args.sign c.take.result start (g.W.Write.contents c.args.out.now) has
+    took c.tell.new.self c.in-Some.outcome c.tell.result (g.W.Write.contents c.tell.new.out) c.in-Some.is c.tell.ensures.same
+    (λ calls begun told. subst (λ (is_doubted : Bool).
+    Tells c.tell.new.self (calls ++ call_with c.args.self.now.table is_doubted c.in-Some.outcome ∷ []) c.tell.result begun
+    (g.W.Write.contents c.tell.new.out)) c.is_doubt-is_doubted.ensures (c.tell.ensures.told calls begun told))
 
 pub returns-in-None-clause-written : goal.returns-in-None-clause-written
-returns-in-None-clause-written g c = λ limit keys start has.
-    takes-none limit c.args.self.now c.take.new.self keys c.args.key c.take.result start (g.W.Write.contents c.args.out.now) has
-    (c.take.ensures limit keys (told_by limit keys) has.taken) c.in-None.is
+returns-in-None-clause-written g c = λ limit signs start has.
+    let keys = keys_of signs in
+    let took = subst (λ (key : TimedKey). HasTaken limit c.take.new.self (keys ++ key ∷ []) (told_by limit keys ++ option_to_list c.take.result))
+    c.key.ensures (c.take.ensures limit keys (told_by limit keys) has.taken) in
+    takes-none limit c.args.self.now c.take.new.self signs c.args.sign c.take.result start (g.W.Write.contents c.args.out.now) has
+    took c.in-None.is

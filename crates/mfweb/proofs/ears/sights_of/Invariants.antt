@@ -1,9 +1,0 @@
-use Rattle.std.proofs.Common.{◌≡◌, map, take, length}
-use Rattle.mfweb.specs.Ears.{sight_in}
-use Rattle.mfweb.proofs.ears.sights_of.Given as goal
-
-abbrev pub invariant-loop-n : goal.invariant-loop-n
-invariant-loop-n l = record {
-  written : take l.n l.sights ≡ map sight_in (take l.n l.web);
-  length : length l.sights ≡ 64;
-}

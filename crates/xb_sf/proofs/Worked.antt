@@ -1,0 +1,17 @@
+-- The worked cases hold.
+use Rattle.std.proofs.Common.{refl}
+use Rattle.xb_sf.specs.Worked.{AreAsWorked}
+
+pub are_as_worked : AreAsWorked
+are_as_worked = record {
+  case_1 = refl;
+  case_2 = refl;
+  case_3 = refl;
+  case_4 = refl;
+  case_5 = refl;
+  case_6 = refl;
+  case_7 = refl;
+  case_8 = refl;
+  case_9 = refl;
+  case_10 = refl;
+}

@@ -1,0 +1,7 @@
+pub mod Parts
+pub mod Turns
+pub mod Machine
+pub mod Constants
+pub mod Sounds
+pub mod Worked
+pub mod Waves

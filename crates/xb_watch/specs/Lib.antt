@@ -1,0 +1,6 @@
+pub mod Keyings
+pub mod Leads
+pub mod Texts
+pub mod Objects
+pub mod Reports
+pub mod Worked
