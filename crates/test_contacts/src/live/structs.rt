@@ -2,7 +2,7 @@
 use std::alloc::Global;
 use std::process::Abort;
 use std::test::Fail;
-use xb_model::Limits;
+use xb_model::{Limits, lengths_by};
 use xb_routes::{RouteFault, RouteWords};
 use xb_structs::{
     DONE, PlainLine, PlainMark, PlainRoute, PlainRow, PlainSignal, PlainTable, Refusal, add, begin,
@@ -37,6 +37,7 @@ fn unopened() -> PlainTable {
         },
         count: 0,
         routes: [route; 1000],
+        lengths: lengths_by(&[]),
     }
 }
 
