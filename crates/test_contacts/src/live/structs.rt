@@ -2,7 +2,7 @@
 use std::alloc::Global;
 use std::process::Abort;
 use std::test::Fail;
-use xb_model::{Limits, lengths_by};
+use xb_model::{LENGTHS, Lengths, Limits};
 use xb_routes::{RouteFault, RouteWords};
 use xb_structs::{
     DONE, PlainLine, PlainMark, PlainRoute, PlainRow, PlainSignal, PlainTable, Refusal, add, begin,
@@ -37,7 +37,7 @@ fn unopened() -> PlainTable {
         },
         count: 0,
         routes: [route; 1000],
-        lengths: lengths_by(&[]),
+        lengths: Lengths { told: [0; LENGTHS] },
     }
 }
 
