@@ -20,6 +20,7 @@
 //!   values. `mfweb_layout`: where the fields of each struct stand.
 #![tactic(auto)]
 
+mod caller_signals;
 mod exports;
 mod lamps;
 pub mod laws;
@@ -28,9 +29,9 @@ mod listening;
 mod onward;
 mod status;
 mod taking;
-mod telling;
 mod wrong;
 
+pub use caller_signals::{mfweb_number, mfweb_tell};
 pub use exports::{
     mfweb_add, mfweb_begin, mfweb_cadence, mfweb_entry, mfweb_limits, mfweb_route, mfweb_tone,
 };
@@ -38,4 +39,3 @@ pub use layout::mfweb_layout;
 pub use listening::{mfweb_ear, mfweb_hear, mfweb_heard};
 pub use onward::{mfweb_incoming, mfweb_onward};
 pub use taking::{mfweb_lamps, mfweb_reopen, mfweb_take};
-pub use telling::{mfweb_number, mfweb_tell};

@@ -12,7 +12,7 @@ use Rattle.xb_contact.specs.declared.scale.Scale.{Scale}
 use Rattle.xb_contact.specs.Holds.{other_level}
 use Rattle.xb_contact.specs.Machine.{at_end}
 use Rattle.xb_feed.specs.declared.line.Line.{Line}
-use Rattle.xb_feed.specs.declared.manner.AskedLine.{AskedLine}
+use Rattle.xb_feed.specs.declared.listening.AskedLine.{AskedLine}
 use Rattle.xb_feed.specs.Watching.{Watch, all_held, begun_watch, begun_watched, contact_before, edge_heard, first_of, heard_event, level_heard, level_seen, line_changed, line_edge_told, line_edged, line_held, line_left, line_told, told_at_edge, watch_after, watched_of, wire_changed, wire_edge_told, wire_edged}
 use Rattle.xb_plot.specs.declared.turns.Turn.{Turn}
 use Rattle.xb_plot.specs.TurnLaws.{KeepsTheLast, last_turns, with_turns}
@@ -25,7 +25,7 @@ use Rattle.xb_turns.specs.Dials.{left_by}
 use Rattle.xb_bench.specs.declared.bench.Bench.{Bench}
 use Rattle.xb_bench.specs.declared.drawn.DrawnBench.{DrawnBench}
 use Rattle.xb_bench.specs.declared.setting.Setting.{Setting}
-use Rattle.xb_bench.specs.declared.told.What.TheVariants.{ComesTo}
+use Rattle.xb_bench.specs.declared.line_text.What.TheVariants.{ComesTo}
 use Rattle.xb_bench.specs.Benches.{Told, by_digits, last_of, left_of, said_past, said_until, told_by, told_left, told_of}
 use Rattle.xb_bench.specs.Drawings.{Drawing}
 use Rattle.xb_bench.specs.Drawn.{by_plots, drawing_by_bench, turns_after}

@@ -7,7 +7,7 @@ use Rattle.xb_contact.specs.Machine.{at_end}
 use Rattle.xb_report.proofs.Pushed.{both}
 use Rattle.xb_bench.specs.declared.bench.Bench.{Bench}
 use Rattle.xb_turns.specs.declared.dial.Said.{Said}
-use Rattle.xb_bench.specs.declared.told.What.TheVariants.{ComesTo}
+use Rattle.xb_bench.specs.declared.line_text.What.TheVariants.{ComesTo}
 use Rattle.xb_turns.specs.declared.train.Train.{Train}
 use Rattle.xb_bench.specs.Benches.{Told, last_of, left_of, said_past, told_by, told_last, told_left, told_of, told_text}
 use Rattle.xb_turns.specs.Dials.{left_by}

@@ -6,14 +6,14 @@ use Rattle.xb_contact.specs.declared.scale.Scale.{Scale}
 use Rattle.xb_contact.specs.Holds.{hold_of}
 use Rattle.xb_contact.specs.Machine.{at_end}
 use Rattle.xb_contact.specs.Times.{CanCount}
-use Rattle.xb_feed.specs.declared.manner.Manner.{Manner}
+use Rattle.xb_feed.specs.declared.listening.Manner.{Manner}
 use Rattle.xb_feed.specs.Followers.{Follower}
 use Rattle.xb_feed.specs.Tallies.{begun_tally, counted_anew, tally_after}
 use Rattle.xb_bench.specs.declared.bench.Bench.{Bench}
 use Rattle.xb_turns.specs.declared.dial.Said.{Said}
 use Rattle.xb_bench.specs.declared.setting.Setting.{Setting}
-use Rattle.xb_bench.specs.declared.told.What.{What}
-use Rattle.xb_bench.specs.declared.told.What.TheVariants.{Says, Ends, ComesTo}
+use Rattle.xb_bench.specs.declared.line_text.What.{What}
+use Rattle.xb_bench.specs.declared.line_text.What.TheVariants.{Says, Ends, ComesTo}
 use Rattle.xb_turns.specs.declared.train.Train.{Train}
 use Rattle.xb_turns.specs.Dials.{begun_dial, dial_after, left_by, said_now}
 use Rattle.xb_bench.specs.Pieces.{begun_pieces, now_of, piece_given, pieces_after}

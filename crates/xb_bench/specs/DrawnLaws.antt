@@ -5,7 +5,7 @@ use Rattle.std.specs.Option.{option_map_or}
 use Rattle.xb_contact.specs.declared.event.Event.{Event}
 use Rattle.xb_contact.specs.declared.event.Event.TheVariants as events
 use Rattle.xb_feed.specs.declared.line.Line.{Line}
-use Rattle.xb_feed.specs.declared.manner.AskedLine.{AskedLine}
+use Rattle.xb_feed.specs.declared.listening.AskedLine.{AskedLine}
 use Rattle.xb_feed.specs.Watching.{Watch, begun_watch, heard_event, line_left, line_told, told_at_edge, watch_after}
 use Rattle.xb_plot.specs.declared.turns.Turn.{Turn}
 use Rattle.xb_plot.specs.TurnLaws.{last_turns}
@@ -14,8 +14,8 @@ use Rattle.xb_turns.specs.declared.dial.Said.{Said}
 use Rattle.xb_turns.specs.declared.dial.Said.TheVariants.{Digit, HungUp}
 use Rattle.xb_bench.specs.declared.bench.Bench.{Bench}
 use Rattle.xb_bench.specs.declared.setting.Setting.{Setting}
-use Rattle.xb_bench.specs.declared.told.What.{What}
-use Rattle.xb_bench.specs.declared.told.What.TheVariants.{Says, Ends, ComesTo}
+use Rattle.xb_bench.specs.declared.line_text.What.{What}
+use Rattle.xb_bench.specs.declared.line_text.What.TheVariants.{Says, Ends, ComesTo}
 use Rattle.xb_bench.specs.Benches.{Told, by_digits, last_of}
 use Rattle.xb_bench.specs.Drawings.{Drawing}
 use Rattle.xb_bench.specs.Drawn.{by_plots, drawing_by_bench, turn_of}

@@ -16,8 +16,8 @@ use Rattle.xb_turns.specs.declared.windows.Windows.{Windows}
 use Rattle.xb_turns.specs.declared.sums.Series.{Series}
 use Rattle.xb_turns.specs.declared.sums.Sums.{Sums}
 use Rattle.xb_turns.specs.declared.sums.Verdicts.{Verdicts}
-use Rattle.xb_bench.specs.declared.told.What.{What}
-use Rattle.xb_bench.specs.declared.told.What.TheVariants.{Says, Ends, ComesTo}
+use Rattle.xb_bench.specs.declared.line_text.What.{What}
+use Rattle.xb_bench.specs.declared.line_text.What.TheVariants.{Says, Ends, ComesTo}
 use Rattle.xb_turns.specs.declared.train.Spread.{Spread}
 use Rattle.xb_turns.specs.declared.train.Train.{Train}
 use Rattle.xb_turns.specs.declared.train.Wrong.{Wrong}

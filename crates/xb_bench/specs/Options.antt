@@ -5,8 +5,8 @@ use Rattle.xb_command.specs.Answers.{Takes}
 use Rattle.xb_command.specs.declared.asking.Misfit.{Misfit}
 use Rattle.xb_command.specs.declared.table.Call.{Call}
 use Rattle.xb_command.specs.Given.{ReadsFlag, given_by}
-use Rattle.xb_feed.specs.declared.manner.AskedLine.{AskedLine}
-use Rattle.xb_feed.specs.declared.manner.Manner.{Manner}
+use Rattle.xb_feed.specs.declared.listening.AskedLine.{AskedLine}
+use Rattle.xb_feed.specs.declared.listening.Manner.{Manner}
 use Rattle.xb_feed.specs.declared.request.Request.{Request}
 use Rattle.xb_feed.specs.Options.{Say as SaysOf, SayNothing as SaysNothingOf}
 use Rattle.xb_bench.specs.declared.setting.Form.{Form}

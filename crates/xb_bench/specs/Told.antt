@@ -5,8 +5,8 @@ use Rattle.xb_bench.specs.declared.setting.Form.{Form}
 use Rattle.xb_bench.specs.declared.setting.Form.TheVariants.{Lines, Objects, Page, Picture}
 use Rattle.xb_bench.specs.declared.setting.Setting.{Setting}
 use Rattle.xb_turns.specs.declared.windows.Windows.{Windows}
-use Rattle.xb_bench.specs.declared.told.What.{What}
-use Rattle.xb_bench.specs.declared.told.What.TheVariants.{Says, Ends, ComesTo}
+use Rattle.xb_bench.specs.declared.line_text.What.{What}
+use Rattle.xb_bench.specs.declared.line_text.What.TheVariants.{Says, Ends, ComesTo}
 use Rattle.xb_bench.specs.Objects.{object_text, windows_line}
 use Rattle.xb_bench.specs.SummaryTexts.{summary_text}
 use Rattle.xb_bench.specs.Texts.{ended_text, said_text}

@@ -11,8 +11,8 @@ use Rattle.xb_turns.specs.declared.train.Spread.{Spread}
 use Rattle.xb_turns.specs.declared.train.Train.{Train}
 use Rattle.xb_bench.specs.declared.setting.Form.{Form}
 use Rattle.xb_bench.specs.declared.setting.Setting.{Setting}
-use Rattle.xb_bench.specs.declared.told.What.{What}
-use Rattle.xb_bench.specs.declared.told.What.TheVariants.{Says, Ends, ComesTo}
+use Rattle.xb_bench.specs.declared.line_text.What.{What}
+use Rattle.xb_bench.specs.declared.line_text.What.TheVariants.{Says, Ends, ComesTo}
 use Rattle.xb_bench.specs.Objects.{object_text, windows_line}
 use Rattle.xb_bench.specs.Told.{line_text}
 use Rattle.xb_bench.specs.Windows.{bell}

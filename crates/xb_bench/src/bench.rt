@@ -5,9 +5,9 @@ ghost use Rattle.xb_contact.specs.Machine.{at_end};
 ghost use Rattle.xb_bench.specs.Benches.{CanHold, bench_past, by_digits, held_until, last_of, said_past, said_until, told_by};
 ghost use Rattle.xb_bench.specs.Benches.{told_left, told_text};
 
+use crate::line_text::{What, push_told};
 use crate::pieces::Pieces;
 use crate::setting::Setting;
-use crate::told::{What, push_told};
 use std::alloc::AllocError;
 use xb_contact::{Hold, Level, Scale};
 use xb_feed::{Follow, Manner, Tally};

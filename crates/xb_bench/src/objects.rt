@@ -5,9 +5,9 @@ ghost use Rattle.xb_bench.specs.Objects.{digit_line, ended_lines, ended_object, 
 ghost use Rattle.xb_bench.specs.Objects.{summary_object, unended_line, windows_line, windows_object};
 
 use crate::digit_object::digit_object;
+use crate::line_text::What;
 use crate::setting::Setting;
 use crate::sums_object::{summary_object, windows_object};
-use crate::told::What;
 use serde_json::Value;
 use std::alloc::{AllocError, Global};
 use xb_contact::Scale;

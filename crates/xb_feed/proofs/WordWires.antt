@@ -4,7 +4,7 @@ use Rattle.std.proofs.lemmas.List.{map-append}
 use Rattle.std.specs.Prelude.{option_and_then, if◌then◌else◌}
 use Rattle.std.specs.Borrow.{Bor}
 use Rattle.clap.specs.Walk.{Text}
-use Rattle.xb_feed.specs.declared.manner.AskedLine.{AskedLine}
+use Rattle.xb_feed.specs.declared.listening.AskedLine.{AskedLine}
 use Rattle.xb_feed.specs.declared.own.Own.{Own}
 use Rattle.xb_feed.specs.Options.{is_among, wire_added, wire_of}
 

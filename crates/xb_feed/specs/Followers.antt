@@ -2,7 +2,7 @@
 use Rattle.std.specs.Prelude.{ℕ, List}
 use Rattle.xb_contact.specs.declared.level.Level.{Level}
 use Rattle.xb_contact.specs.declared.scale.Scale.{Scale}
-use Rattle.xb_feed.specs.declared.manner.Manner.{Manner}
+use Rattle.xb_feed.specs.declared.listening.Manner.{Manner}
 
 -- a contact of this kind, where something of the kind G holds for all lines: how it begins at a tick, with the least ticks
 -- of a settled run; whether it may hold its level up to a tick, what is told of its line then, and what is known; a level

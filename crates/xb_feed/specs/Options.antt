@@ -16,8 +16,8 @@ use Rattle.xb_feed.specs.declared.own.Own.{Own}
 use Rattle.xb_feed.specs.declared.words.TheConstants.{THRESHOLD_PERCENT}
 use Rattle.xb_feed.specs.declared.words.Wires.{Wires}
 use Rattle.xb_text.specs.Pieces.{pieces}
-use Rattle.xb_feed.specs.declared.manner.AskedLine.{AskedLine}
-use Rattle.xb_feed.specs.declared.manner.Manner.{Manner}
+use Rattle.xb_feed.specs.declared.listening.AskedLine.{AskedLine}
+use Rattle.xb_feed.specs.declared.listening.Manner.{Manner}
 use Rattle.xb_feed.specs.OwnWords.{manner_of, no_own, own_after, own_or}
 
 -- a line, the name of its wire, which ends at the first comma, and what the line says of itself in words after commas;

@@ -4,7 +4,7 @@ use Rattle.std.specs.Option.{option_and_then}
 use Rattle.clap.specs.Walk.{Text}
 use Rattle.xb_contact.specs.Numbers.{number_of}
 use Rattle.xb_text.specs.Pieces.{cut_at}
-use Rattle.xb_feed.specs.declared.manner.Manner.{Manner}
+use Rattle.xb_feed.specs.declared.listening.Manner.{Manner}
 use Rattle.xb_feed.specs.declared.own.Own.{Own}
 use Rattle.xb_feed.specs.declared.own.TheConstants.{LEAST_RINGING_SEIZE_MS, RINGING_SEIZE_MS, SEIZE_MS, SETTLE_MS}
 

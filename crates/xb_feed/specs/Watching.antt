@@ -11,8 +11,8 @@ use Rattle.xb_contact.specs.Holds.{other_level}
 use Rattle.xb_contact.specs.Times.{CanCount}
 use Rattle.xb_feed.specs.declared.line.Line.{Line}
 use Rattle.xb_feed.specs.declared.lines.TheConstants.{MOST_GAP_MS}
-use Rattle.xb_feed.specs.declared.manner.AskedLine.{AskedLine}
-use Rattle.xb_feed.specs.declared.manner.Manner.{Manner}
+use Rattle.xb_feed.specs.declared.listening.AskedLine.{AskedLine}
+use Rattle.xb_feed.specs.declared.listening.Manner.{Manner}
 use Rattle.xb_feed.specs.Followers.{Follower}
 
 -- a line, how it is listened to, and its contact from its first level on

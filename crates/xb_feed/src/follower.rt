@@ -3,7 +3,7 @@ ghost use Rattle.std.specs.Prelude.{◌≡◌, ◌<◌, ◌++◌, ◌↔◌, IsT
 ghost use Rattle.std.specs.List.{flat_map};
 ghost use Rattle.xb_contact.specs.Times.{CanCount};
 
-use crate::manner::Manner;
+use crate::listening::Manner;
 use std::alloc::AllocError;
 use xb_contact::{Level, Scale};
 use xb_model::LineNo;

@@ -4,7 +4,7 @@ ghost use Rattle.std.specs.List.{flat_map};
 ghost use Rattle.xb_feed.specs.Watching.{CanBegin, CanBeginBefore, CanChange, CanHaveEdge, CanReach, begins_at, begun_contact, contact_before, least_ticks, level_seen, line_changed, line_edge_told, line_edged, line_held, line_left, line_noted, line_told, seizing_ms, watched_of};
 
 use crate::follower::Follow;
-use crate::manner::Manner;
+use crate::listening::Manner;
 use std::alloc::AllocError;
 use xb_contact::{Level, Scale};
 use xb_model::LineNo;

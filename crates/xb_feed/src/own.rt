@@ -3,7 +3,7 @@ ghost use Rattle.std.specs.Prelude.{◌≡◌, IfErr, IfOk, None, Some, option_c
 ghost use Rattle.xb_feed.specs.OwnWords.{hears_ringing, manner_of, manner_said, no_own, own_added, own_after, own_inverted, own_number, own_or, own_ringing, own_seize, own_settle, said_once, said_or, standard_seize};
 ghost use Rattle.xb_text.specs.Pieces.{pieces_left};
 
-use crate::manner::Manner;
+use crate::listening::Manner;
 use xb_contact::number_of;
 use xb_text::{cut_at, first_piece};
 

@@ -1,6 +1,6 @@
 // What is asked for.
 
-use crate::manner::AskedLine;
+use crate::listening::AskedLine;
 use xb_recording::{Format, Wanted};
 
 /// What is asked for, where a `G` holds for all lines.

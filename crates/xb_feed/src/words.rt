@@ -4,7 +4,7 @@ ghost use Rattle.xb_feed.specs.declared.words.TheConstants.{THRESHOLD_PERCENT};
 ghost use Rattle.xb_feed.specs.Options.{IsForAll, IsPercent, IsUnfit, Say, SayNothing, any_rings, form_asked, form_named, form_suited, is_among, wire_added, wire_by, wire_of, wires_after, wires_in};
 ghost use Rattle.xb_text.specs.Pieces.{pieces, pieces_left};
 
-use crate::manner::AskedLine;
+use crate::listening::AskedLine;
 use crate::own::{Own, own_of};
 use crate::request::Request;
 use std::alloc::Global;

@@ -5,7 +5,7 @@ use Rattle.xb_model.specs.Rows.{LoopRow}
 use Rattle.xb_heard.specs.Attempts.{AttemptOfRuns}
 use Rattle.xb_hear.specs.declared.lines.ToldLines.{ToldLines}
 use Rattle.xb_hear.specs.declared.request.Choice.{Choice}
-use Rattle.xb_hear.specs.declared.manner.Manner.{Manner}
+use Rattle.xb_hear.specs.declared.line_page.Manner.{Manner}
 use Rattle.xb_hear.specs.Choosing.{is_chosen_other, is_chosen_refused}
 use Rattle.xb_hear.specs.LineAttempts.{attempts_of_line, line_if, lines_with}
 use Rattle.xb_hear.specs.ToldLines.{AreTold, TellsBelow, TellsLine}

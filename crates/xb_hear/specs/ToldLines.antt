@@ -12,7 +12,7 @@ use Rattle.xb_hear.specs.declared.lines.ToldLines.{ToldLines}
 use Rattle.xb_hear.specs.declared.request.Choice.{Choice}
 use Rattle.xb_hear.specs.declared.request.ReportForm.{ReportForm}
 use Rattle.xb_hear.specs.declared.request.ReportForm.TheVariants as form
-use Rattle.xb_hear.specs.declared.manner.Manner.{Manner}
+use Rattle.xb_hear.specs.declared.line_page.Manner.{Manner}
 use Rattle.xb_hear.specs.Choosing.{has_refused, is_chosen, is_chosen_other, is_chosen_refused}
 use Rattle.xb_hear.specs.LineAttempts.{attempts_of_line, line_if, lines_with}
 use Rattle.xb_hear.specs.Objects.{objects_from}

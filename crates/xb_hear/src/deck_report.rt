@@ -11,9 +11,9 @@ ghost use Rattle.xb_rows.specs.declared.scan.TheConstants.{MOST_RECORDS};
 
 use crate::fault::HearFault;
 use crate::line::{picture_of_line, text_of_line};
+use crate::line_page::Manner;
 use crate::lines::text_of_lines;
-use crate::manner::Manner;
-use crate::places::lines_before;
+use crate::record_lines::lines_before;
 use crate::request::Request;
 use std::alloc::Global;
 use std::io::{Read, Write};

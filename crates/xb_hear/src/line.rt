@@ -6,7 +6,7 @@ ghost use Rattle.xb_hear.specs.declared.request.Request.TheVariants.{Line, Pictu
 ghost use Rattle.xb_hear.specs.ToldLines.{IsTold, IsWhole};
 
 use crate::fault::HearFault;
-use crate::manner::{Manner, push_told, whole_of};
+use crate::line_page::{Manner, push_told, whole_of};
 use std::alloc::{AllocError, Global};
 use xb_heard::{HeardAttempt, heard_of, runs_of_line};
 use xb_model::{Limits, LineNo, Plan, Row};

@@ -7,7 +7,7 @@ ghost use Rattle.xb_hear.specs.declared.request.Request.TheVariants.{Lines};
 ghost use Rattle.xb_hear.specs.ToldLines.{Lists, TellsBelow, TellsLine, list_of};
 
 use crate::choosing::{has_refused, is_chosen};
-use crate::manner::{Manner, push_told, whole_of};
+use crate::line_page::{Manner, push_told, whole_of};
 use crate::request::{Choice, ReportForm};
 use std::alloc::{AllocError, Global};
 use xb_heard::{HeardAttempt, PlacedRun, heard_of, runs_by_line};

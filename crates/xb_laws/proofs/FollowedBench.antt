@@ -16,7 +16,7 @@ use Rattle.xb_contact.specs.Holds.{hold_of, other_level, total_of}
 use Rattle.xb_contact.specs.Machine.{at_end, pieces_of}
 use Rattle.xb_contact.specs.Times.{CanCount}
 use Rattle.xb_feed.specs.declared.line.Line.{Line}
-use Rattle.xb_feed.specs.declared.manner.Manner.{Manner}
+use Rattle.xb_feed.specs.declared.listening.Manner.{Manner}
 use Rattle.xb_feed.specs.declared.tally.Tally.{Tally}
 use Rattle.xb_feed.specs.Tallies.{begun_tally, counted_anew, tally_after}
 use Rattle.xb_feed.specs.Watching.{CanBegin, CanBeginBefore, CanHaveEdge, CanHearAll, CanReach, ContactCanChange, Watch, all_held, begins_at, begun_contact, certain_told, contact_before, edge_told, event_told, heard_event, least_ticks, level_heard, level_seen, line_edge_told, line_held, line_left, line_told, told_of_events, watch_after, watched_of, wire_changed, wire_edge_told, wire_edged}
@@ -33,7 +33,7 @@ use Rattle.xb_turns.specs.ReportLaws.{judged_said}
 use Rattle.xb_turns.specs.Sums.{sums_after}
 use Rattle.xb_bench.specs.declared.bench.Bench.{Bench}
 use Rattle.xb_bench.specs.declared.setting.Setting.{Setting}
-use Rattle.xb_bench.specs.declared.told.What.TheVariants.{ComesTo, Ends}
+use Rattle.xb_bench.specs.declared.line_text.What.TheVariants.{ComesTo, Ends}
 use Rattle.xb_bench.specs.Benches.{Told, bench_past, by_digits, held_until, hold_to, last_of, left_of, said_past, said_until, taken_to, told_by, told_left, told_of, with_level}
 use Rattle.xb_bench.specs.Pieces.{Settled, begun_pieces, now_of, piece_given, pieces_after, ticks_given}
 use Rattle.xb_laws.specs.RowDigits.{digits_by, digits_in, digits_told}

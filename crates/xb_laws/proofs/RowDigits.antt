@@ -25,8 +25,8 @@ use Rattle.xb_contact.proofs.SeizedRuns.{leaves_all_at_zero}
 use Rattle.xb_contact.specs.declared.ringer.TheConstants.{ANSWER_MS}
 use Rattle.xb_contact.specs.Rings.{answered}
 use Rattle.xb_contact.specs.Seizures.{seized}
-use Rattle.xb_feed.specs.declared.manner.AskedLine.{AskedLine}
-use Rattle.xb_feed.specs.declared.manner.Manner.{Manner}
+use Rattle.xb_feed.specs.declared.listening.AskedLine.{AskedLine}
+use Rattle.xb_feed.specs.declared.listening.Manner.{Manner}
 use Rattle.xb_feed.specs.Tallies.{begun_tally}
 use Rattle.xb_feed.specs.Watching.{CanHearAll, begun_watch, begun_watched, least_ticks, told_of_events}
 use Rattle.xb_heard.specs.declared.run.PlacedRun.{PlacedRun}

@@ -18,7 +18,7 @@ use Rattle.xb_dial.specs.Drawn.{disturbed_from}
 use Rattle.xb_dial.specs.Runs.{hold_of_row, in_us, on_hook, runs_in}
 use Rattle.xb_dial.specs.Traces.{changes_from, clean_of, trace_changes, trace_end, trace_of}
 use Rattle.xb_dial.proofs.TraceTotals.{recorded-total}
-use Rattle.xb_feed.specs.declared.manner.Manner.{Manner}
+use Rattle.xb_feed.specs.declared.listening.Manner.{Manner}
 use Rattle.xb_loop.specs.WireRecords.{WireRecord, holds_from, record_from}
 use Rattle.xb_laws.specs.TraceTapes.{TracesAreRecorded, record_of_trace, said_of}
 

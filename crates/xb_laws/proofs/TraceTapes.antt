@@ -6,7 +6,7 @@ use Rattle.xb_contact.specs.declared.hold.Hold.{Hold}
 use Rattle.xb_contact.specs.Bounces.{clean, recorded}
 use Rattle.xb_contact.specs.Holds.{IsAlternating}
 use Rattle.xb_contact.specs.Times.{scale_by}
-use Rattle.xb_feed.specs.declared.manner.AskedLine.{AskedLine}
+use Rattle.xb_feed.specs.declared.listening.AskedLine.{AskedLine}
 use Rattle.xb_feed.specs.Watching.{least_ticks}
 use Rattle.xb_loop.specs.declared.common.Common.{Common}
 use Rattle.xb_loop.specs.RecordingLaws.{IsDisturbed, IsRecorded, rows_written}

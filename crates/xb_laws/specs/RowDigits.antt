@@ -4,7 +4,7 @@ use Rattle.std.specs.List.{flat_map}
 use Rattle.xb_model.specs.declared.plan.Plan.{Plan}
 use Rattle.xb_model.specs.Records.{joined, record_of}
 use Rattle.xb_contact.specs.declared.event.Event.{Event}
-use Rattle.xb_feed.specs.declared.manner.AskedLine.{AskedLine}
+use Rattle.xb_feed.specs.declared.listening.AskedLine.{AskedLine}
 use Rattle.xb_feed.specs.Watching.{CanHearAll, begun_watch, told_of_events}
 use Rattle.xb_heard.specs.declared.run.PlacedRun.{PlacedRun}
 use Rattle.xb_heard.specs.PlacedRuns.{run_in}
@@ -15,8 +15,8 @@ use Rattle.xb_loop.specs.WireRecords.{WireRecord}
 use Rattle.xb_turns.specs.declared.train.Wrong.{Wrong}
 use Rattle.xb_turns.specs.ReportLaws.{judged_digits, judged_said}
 use Rattle.xb_bench.specs.declared.setting.Setting.{Setting}
-use Rattle.xb_bench.specs.declared.told.What.{What}
-use Rattle.xb_bench.specs.declared.told.What.TheVariants.{Says, Ends, ComesTo}
+use Rattle.xb_bench.specs.declared.line_text.What.{What}
+use Rattle.xb_bench.specs.declared.line_text.What.TheVariants.{Says, Ends, ComesTo}
 use Rattle.xb_bench.specs.Benches.{Told, by_digits}
 use Rattle.xb_bench.specs.Options.{is_plain}
 

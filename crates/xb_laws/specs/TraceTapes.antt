@@ -6,8 +6,8 @@ use Rattle.xb_contact.specs.declared.level.Level.TheVariants.{Open}
 use Rattle.xb_contact.specs.Bounces.{recorded}
 use Rattle.xb_contact.specs.Times.{scale_by}
 use Rattle.xb_vcd.specs.WrittenVcd.{vcd_events}
-use Rattle.xb_feed.specs.declared.manner.AskedLine.{AskedLine}
-use Rattle.xb_feed.specs.declared.manner.Manner.{Manner}
+use Rattle.xb_feed.specs.declared.listening.AskedLine.{AskedLine}
+use Rattle.xb_feed.specs.declared.listening.Manner.{Manner}
 use Rattle.xb_feed.specs.Watching.{least_ticks}
 use Rattle.xb_loop.specs.declared.common.Common.{Common}
 use Rattle.xb_loop.specs.RecordingLaws.{rows_written}

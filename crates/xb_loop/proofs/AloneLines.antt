@@ -7,7 +7,7 @@ use Rattle.std.specs.List.{list_any}
 use Rattle.std.proofs.lemmas.Bool.{eq-eqb}
 use Rattle.clap.specs.Walk.{Text}
 use Rattle.xb_recording.specs.Says.{names_in}
-use Rattle.xb_feed.specs.declared.manner.AskedLine.{AskedLine}
+use Rattle.xb_feed.specs.declared.listening.AskedLine.{AskedLine}
 use Rattle.xb_feed.specs.declared.own.Own.{Own}
 use Rattle.xb_feed.specs.Options.{is_among, wire_added, wire_of, wire_words, wires_after}
 use Rattle.xb_loop.specs.WireRecords.{numbers_asked}

@@ -7,7 +7,7 @@ use Rattle.xb_contact.specs.declared.event.Event.TheVariants as events
 use Rattle.xb_contact.specs.declared.level.Level.{Level}
 use Rattle.xb_contact.specs.declared.scale.Scale.{Scale}
 use Rattle.xb_contact.specs.Repeats.{levels_of}
-use Rattle.xb_feed.specs.declared.manner.Manner.{Manner}
+use Rattle.xb_feed.specs.declared.listening.Manner.{Manner}
 use Rattle.xb_loop.specs.FirstEdges.{FirstEdgesTell, MakesBeforeSeize, first_after, scale_after, tick_after}
 use Rattle.xb_loop.specs.WireRecords.{WireRecord, record_by_edge, record_by_level, record_from}
 

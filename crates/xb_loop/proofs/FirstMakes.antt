@@ -11,7 +11,7 @@ use Rattle.xb_contact.specs.Seizures.{seized, seizures}
 use Rattle.xb_contact.specs.Settled.{gathered, settled}
 use Rattle.xb_contact.specs.Times.{ms_at, rounded}
 use Rattle.xb_contact.proofs.RoundedHolds.{ms_at-zero, ms_at_grows}
-use Rattle.xb_feed.specs.declared.manner.Manner.{Manner}
+use Rattle.xb_feed.specs.declared.listening.Manner.{Manner}
 use Rattle.xb_feed.specs.Watching.{least_ticks}
 use Rattle.xb_loop.specs.declared.common.Common.{Common}
 use Rattle.xb_loop.specs.FirstMakes.{BeginWithMake, FirstMakesAreHeard}

@@ -21,9 +21,9 @@ use Rattle.xb_contact.specs.Machine.{given_by, phase_after, reach, step, step_of
 use Rattle.xb_contact.specs.Ringing.{all_rung, piece_rung}
 use Rattle.xb_contact.specs.Seizing.{all_passed}
 use Rattle.xb_contact.proofs.Seized.{piece_passes}
-use Rattle.xb_feed.specs.declared.manner.AskedLine.{AskedLine}
+use Rattle.xb_feed.specs.declared.listening.AskedLine.{AskedLine}
 use Rattle.xb_loop.specs.declared.common.Common.{Common}
-use Rattle.xb_feed.specs.declared.manner.Manner.{Manner}
+use Rattle.xb_feed.specs.declared.listening.Manner.{Manner}
 use Rattle.xb_feed.specs.declared.tally.Bounces.{Bounces}
 use Rattle.xb_loop.specs.Contacts.{Followed, given_until, held_until, hold_to, piece_until}
 use Rattle.xb_loop.specs.BounceLines.{bounces_heard}

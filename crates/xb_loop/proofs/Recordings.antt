@@ -22,9 +22,9 @@ use Rattle.xb_contact.proofs.Rung.{rings_each_hold, seizes_the_answered}
 use Rattle.xb_contact.proofs.Seized.{passes_the_seized}
 use Rattle.xb_contact.proofs.SeizedRuns.{leaves_all_at_zero, leaves_seizures, runs_of-runs}
 use Rattle.xb_contact.proofs.Told.{tells_the_record}
-use Rattle.xb_feed.specs.declared.manner.AskedLine.{AskedLine}
+use Rattle.xb_feed.specs.declared.listening.AskedLine.{AskedLine}
 use Rattle.xb_loop.specs.declared.common.Common.{Common}
-use Rattle.xb_feed.specs.declared.manner.Manner.{Manner}
+use Rattle.xb_feed.specs.declared.listening.Manner.{Manner}
 use Rattle.xb_loop.specs.RecordingLaws.{HearsTheRecording, IsDisturbed, IsRecorded, KeepsTheTapeOfNights, KeepsTheTapeOfRecordings, KeepsTheTapeOfSeizures, KeepsTheTapeUnlessAsked, TellsTheBounces, least_of_record, rows_written, seized_runs}
 use Rattle.xb_loop.specs.RowsOfHolds.{rows_of_holds, runs_of_holds, written_rows}
 use Rattle.xb_loop.specs.TapeLaws.{MakeOneTape}

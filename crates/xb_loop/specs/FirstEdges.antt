@@ -6,7 +6,7 @@ use Rattle.xb_contact.specs.declared.level.Level.{Level}
 use Rattle.xb_contact.specs.declared.level.Level.TheVariants.{Closed}
 use Rattle.xb_contact.specs.declared.scale.Scale.{Scale}
 use Rattle.xb_contact.specs.Repeats.{levels_of}
-use Rattle.xb_feed.specs.declared.manner.Manner.{Manner}
+use Rattle.xb_feed.specs.declared.listening.Manner.{Manner}
 use Rattle.xb_feed.specs.Watching.{begins_at, least_ticks, seizing_ms}
 use Rattle.xb_loop.specs.WireRecords.{record_by_edge, record_of_wire}
 

@@ -14,10 +14,10 @@ use Rattle.xb_contact.specs.Repeats.{levels_of, repeats_in}
 use Rattle.xb_contact.specs.Seizures.{all_seize, seized}
 use Rattle.xb_contact.specs.Settled.{settled}
 use Rattle.xb_contact.specs.Times.{rounded}
-use Rattle.xb_feed.specs.declared.manner.AskedLine.{AskedLine}
+use Rattle.xb_feed.specs.declared.listening.AskedLine.{AskedLine}
 use Rattle.xb_loop.specs.declared.common.Common.{Common}
 use Rattle.xb_loop.specs.declared.words.Asked.{Asked}
-use Rattle.xb_feed.specs.declared.manner.Manner.{Manner}
+use Rattle.xb_feed.specs.declared.listening.Manner.{Manner}
 use Rattle.xb_loop.specs.Options.{Asks}
 use Rattle.xb_loop.specs.RowsOfHolds.{rows_of_holds, runs_of_holds}
 use Rattle.xb_feed.specs.Tallies.{bounces_in}

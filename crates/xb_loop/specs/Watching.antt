@@ -11,8 +11,8 @@ use Rattle.xb_contact.specs.Listening.{begun_at}
 use Rattle.xb_contact.specs.Ringing.{Ringing, begun_ringing}
 use Rattle.xb_contact.specs.Seizing.{Seizing, begun_seizing}
 use Rattle.xb_feed.specs.declared.line.Line.{Line}
-use Rattle.xb_feed.specs.declared.manner.AskedLine.{AskedLine}
-use Rattle.xb_feed.specs.declared.manner.Manner.{Manner}
+use Rattle.xb_feed.specs.declared.listening.AskedLine.{AskedLine}
+use Rattle.xb_feed.specs.declared.listening.Manner.{Manner}
 use Rattle.xb_feed.specs.Followers.{Follower}
 use Rattle.xb_feed.specs.Watching as feed
 use Rattle.xb_loop.specs.declared.common.Common.{Common}

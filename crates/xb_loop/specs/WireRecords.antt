@@ -12,9 +12,9 @@ use Rattle.xb_contact.specs.Holds.{hold_of, other_level}
 use Rattle.xb_contact.specs.Listening.{all_told, begun_at}
 use Rattle.xb_contact.specs.Ringing.{all_rung}
 use Rattle.xb_contact.specs.Seizing.{all_passed}
-use Rattle.xb_feed.specs.declared.manner.AskedLine.{AskedLine}
+use Rattle.xb_feed.specs.declared.listening.AskedLine.{AskedLine}
 use Rattle.xb_loop.specs.declared.common.Common.{Common}
-use Rattle.xb_feed.specs.declared.manner.Manner.{Manner}
+use Rattle.xb_feed.specs.declared.listening.Manner.{Manner}
 use Rattle.xb_feed.specs.declared.tally.Bounces.{Bounces}
 use Rattle.xb_loop.specs.BounceLines.{bounces_heard}
 use Rattle.xb_loop.specs.RowsOfHolds.{written_rows}

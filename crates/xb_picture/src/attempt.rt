@@ -11,12 +11,12 @@ use crate::digit::put_digits;
 use crate::figures::{put_make, put_time};
 use crate::label::{from_words, outcome_words};
 use crate::look::{BESIDE, DOTS, FROM, HEAD, SMALL};
-use crate::places::{
-    AFTER_END, AFTER_NUMBER, END_FOOT, END_TOP, END_WORDS, HEADING, LEFT, MARK_WIDTH, NOT_HEARD,
-    RIGHT, UNDER, UNDER_THAT, VALUE,
-};
 use crate::sheet::{
     Sheet, begin_row, begin_words, below, make_room, put_band, put_caption, put_line, put_text,
+};
+use crate::sheet_layout::{
+    AFTER_END, AFTER_NUMBER, END_FOOT, END_TOP, END_WORDS, HEADING, LEFT, MARK_WIDTH, NOT_HEARD,
+    RIGHT, UNDER, UNDER_THAT, VALUE,
 };
 use std::alloc::AllocError;
 use xb_heard::{HeardAttempt, HeardDigit, PlacedRun, times_of};

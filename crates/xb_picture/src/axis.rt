@@ -4,8 +4,8 @@ ghost use Rattle.xb_picture.specs.Said.{says};
 
 use crate::course::{SHOWN, drawn};
 use crate::look::SMALL;
-use crate::places::{AXIS, AXIS_WIDTH, LONG_TICK, MARK_WIDTH, SECONDS, SHORT_TICK};
 use crate::sheet::{Sheet, below, put_ground, put_line, put_own};
+use crate::sheet_layout::{AXIS, AXIS_WIDTH, LONG_TICK, MARK_WIDTH, SECONDS, SHORT_TICK};
 use std::alloc::AllocError;
 use xb_heard::PlacedRun;
 use xb_svg::{Ink, Step};

@@ -4,8 +4,8 @@ ghost use Rattle.xb_picture.specs.Courses.{drawn, fitting};
 ghost use Rattle.xb_picture.specs.Said.{says};
 
 use crate::axis::put_axis;
-use crate::places::{HIGH, LOOP_WIDTH, LOW};
 use crate::sheet::{Sheet, below, put_line};
+use crate::sheet_layout::{HIGH, LOOP_WIDTH, LOW};
 use std::alloc::AllocError;
 use xb_heard::PlacedRun;
 use xb_model::Contact;

@@ -17,8 +17,8 @@ mod label;
 pub mod laws;
 mod look;
 mod picture;
-mod places;
 mod sheet;
+mod sheet_layout;
 mod wrong;
 
 pub use attempt::MOST_DIGITS;

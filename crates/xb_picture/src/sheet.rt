@@ -3,7 +3,7 @@ ghost use Rattle.std.specs.Prelude.{◌≡◌, ◌++◌, ◌∷◌, [], OnOk, de
 ghost use Rattle.xb_picture.specs.Said.{says};
 
 use crate::look::NAME;
-use crate::places::{
+use crate::sheet_layout::{
     BAND, BAND_HEIGHT, FIRST, FOOT, HIGH, LEAD_IN, LEFT, LOOP_WIDTH, LOW, NAME_DROP, NAMES, RIGHT,
     ROW_SLOTS, SLOT,
 };

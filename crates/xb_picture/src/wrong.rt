@@ -7,10 +7,10 @@ ghost use Rattle.xb_picture.specs.Said.{says};
 use crate::course::drawn;
 use crate::label::{record_words, spoiled_words};
 use crate::look::{PLAIN_RED, RED, SHORT_RED, SMALL};
-use crate::places::{
+use crate::sheet::{Sheet, below, put_line, put_number, put_text};
+use crate::sheet_layout::{
     FAULT_MIDDLE, HIGH, LEFT, LOW, OVER_WRONG, UNDER, UNDER_THAT, UNDER_WRONG, WRONG_WIDTH,
 };
-use crate::sheet::{Sheet, below, put_line, put_number, put_text};
 use std::alloc::AllocError;
 use xb_heard::{PlacedRun, Spoiler, fault_at};
 use xb_model::{Contact, Limits};

@@ -9,7 +9,7 @@ use Rattle.xb_turns.specs.declared.windows.Window.{Window}
 use Rattle.xb_turns.specs.declared.windows.Windows.{Windows}
 use Rattle.xb_plot.specs.declared.figure.Figure.{Figure}
 use Rattle.xb_plot.specs.declared.figure.Figure.TheVariants.{Share, Speed}
-use Rattle.xb_plot.specs.declared.places.TheConstants.{BESIDE, DROP, LEFT, LIMIT_WIDTH, PANEL_HEIGHT, PANEL_WIDTH, RIGHT}
+use Rattle.xb_plot.specs.declared.plot_layout.TheConstants.{BESIDE, DROP, LEFT, LIMIT_WIDTH, PANEL_HEIGHT, PANEL_WIDTH, RIGHT}
 use Rattle.xb_plot.specs.declared.bands.TheConstants.{NUMBER}
 use Rattle.xb_plot.specs.Figures.{axis_least, axis_most, place_of, top_of, window_of}
 

@@ -12,7 +12,7 @@ use Rattle.xb_turns.specs.declared.windows.Windows.{Windows}
 use Rattle.xb_turns.specs.Figures.{share_of, speed_of}
 use Rattle.xb_turns.specs.Verdicts.{is_within, verdict_of, word_of}
 use Rattle.xb_plot.specs.declared.panel.Panel.{Panel}
-use Rattle.xb_plot.specs.declared.places.TheConstants.{BIG_DOT, NAMED_STEP, SMALL_DOT}
+use Rattle.xb_plot.specs.declared.plot_layout.TheConstants.{BIG_DOT, NAMED_STEP, SMALL_DOT}
 use Rattle.xb_plot.specs.declared.turns.Turn.{Turn}
 use Rattle.xb_plot.specs.Figures.{place_of, value_of, window_of}
 use Rattle.xb_plot.specs.Names.{name_text}

@@ -7,7 +7,7 @@ use Rattle.xb_turns.specs.declared.windows.Windows.{Windows}
 use Rattle.xb_turns.specs.Figures.{share_of, speed_of}
 use Rattle.xb_plot.specs.declared.figure.Figure.{Figure}
 use Rattle.xb_plot.specs.declared.figure.Figure.TheVariants.{Share, Speed}
-use Rattle.xb_plot.specs.declared.places.TheConstants.{PANEL_HEIGHT, SHARE_TOP, SPEED_TOP}
+use Rattle.xb_plot.specs.declared.plot_layout.TheConstants.{PANEL_HEIGHT, SHARE_TOP, SPEED_TOP}
 
 abbrev pub name_of : Figure → List ℕ
 name_of Speed = codes "pulses a second"

@@ -5,7 +5,7 @@ use Rattle.xb_svg.specs.declared.look.Look.{Look}
 use Rattle.xb_svg.specs.Elements.{text_end, text_start}
 use Rattle.xb_turns.specs.declared.train.Train.{Train}
 use Rattle.xb_turns.specs.declared.train.Wrong.{Wrong}
-use Rattle.xb_plot.specs.declared.places.TheConstants.{NAMED_STEP, NAMES}
+use Rattle.xb_plot.specs.declared.plot_layout.TheConstants.{NAMED_STEP, NAMES}
 use Rattle.xb_plot.specs.declared.turns.Turn.{Turn}
 use Rattle.xb_plot.specs.declared.names.TheConstants.{GOOD, SPOILED}
 use Rattle.xb_plot.specs.Places.{place_in_order, step_of}

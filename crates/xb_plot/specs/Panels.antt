@@ -3,7 +3,7 @@ use Rattle.std.specs.Prelude.{ℕ, ◌-◌, List, ◌++◌}
 use Rattle.xb_svg.specs.Elements.{words_text}
 use Rattle.xb_plot.specs.declared.figure.Figure.{Figure}
 use Rattle.xb_plot.specs.declared.panel.Panel.{Panel}
-use Rattle.xb_plot.specs.declared.places.TheConstants.{ABOVE, LEFT}
+use Rattle.xb_plot.specs.declared.plot_layout.TheConstants.{ABOVE, LEFT}
 use Rattle.xb_plot.specs.declared.turns.Turn.{Turn}
 use Rattle.xb_plot.specs.Bands.{bands_text, limits_text}
 use Rattle.xb_plot.specs.Dots.{dots_text}

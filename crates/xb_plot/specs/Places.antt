@@ -1,6 +1,6 @@
 -- Where digits stand from the left: in equal steps.
 use Rattle.std.specs.Prelude.{ℕ, ◌+◌, ◌*◌, ◌/◌, max, min}
-use Rattle.xb_plot.specs.declared.places.TheConstants.{LEFT, PANEL_WIDTH, WIDEST_STEP}
+use Rattle.xb_plot.specs.declared.plot_layout.TheConstants.{LEFT, PANEL_WIDTH, WIDEST_STEP}
 
 -- how far two of so many stand from each other
 abbrev pub step_of : ℕ → ℕ

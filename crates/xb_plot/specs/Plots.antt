@@ -7,7 +7,7 @@ use Rattle.xb_turns.specs.declared.windows.Windows.{Windows}
 use Rattle.xb_plot.specs.declared.figure.Figure.{Figure}
 use Rattle.xb_plot.specs.declared.figure.Figure.TheVariants.{Share, Speed}
 use Rattle.xb_plot.specs.declared.panel.Panel.{Panel}
-use Rattle.xb_plot.specs.declared.places.TheConstants.{LEFT, LEGEND, OLDER, SUMMARY, TITLE, WHOLE_HEIGHT, WIDTH}
+use Rattle.xb_plot.specs.declared.plot_layout.TheConstants.{LEFT, LEGEND, OLDER, SUMMARY, TITLE, WHOLE_HEIGHT, WIDTH}
 use Rattle.xb_plot.specs.declared.turns.Turn.{Turn}
 use Rattle.xb_plot.specs.declared.plot.TheConstants.{BIG, NOTE}
 use Rattle.xb_plot.specs.Names.{names_text}

@@ -5,7 +5,7 @@ ghost use Rattle.xb_plot.specs.Bands.{limit_text, limits_text, narrow_text};
 ghost use Rattle.xb_plot.specs.Bands.{other_limit_text, wide_text, window_text};
 
 use crate::figure::{Figure, axis_least, axis_most, place_of, top_of, window_of};
-use crate::places::{BESIDE, DROP, LEFT, LIMIT_WIDTH, PANEL_HEIGHT, PANEL_WIDTH, RIGHT};
+use crate::plot_layout::{BESIDE, DROP, LEFT, LIMIT_WIDTH, PANEL_HEIGHT, PANEL_WIDTH, RIGHT};
 use std::alloc::AllocError;
 use xb_report::push_figure;
 use xb_svg::{

@@ -9,7 +9,7 @@ ghost use Rattle.xb_turns.specs.Verdicts.{is_within, verdict_of};
 use crate::figure::{place_of, value_of, window_of};
 use crate::names::push_name;
 use crate::panel::Panel;
-use crate::places::{BIG_DOT, NAMED_STEP, SMALL_DOT, place_in_order, step_of};
+use crate::plot_layout::{BIG_DOT, NAMED_STEP, SMALL_DOT, place_in_order, step_of};
 use crate::turns::Turn;
 use std::alloc::{AllocError, Global};
 use xb_contact::Scale;

@@ -4,7 +4,7 @@ ghost use Rattle.xb_plot.specs.Figures.{axis_least, axis_most, least_margin, mar
 ghost use Rattle.xb_plot.specs.Figures.{name_of, place_of, top_of};
 ghost use Rattle.xb_plot.specs.Figures.{value_of, window_of};
 
-use crate::places::{PANEL_HEIGHT, SHARE_TOP, SPEED_TOP};
+use crate::plot_layout::{PANEL_HEIGHT, SHARE_TOP, SPEED_TOP};
 use xb_contact::Scale;
 use xb_turns::{Train, Window, Windows, share_of, speed_of};
 

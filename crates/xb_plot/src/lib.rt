@@ -20,13 +20,13 @@ pub mod laws;
 mod names;
 mod page;
 mod panel;
-mod places;
 mod plot;
+mod plot_layout;
 mod turns;
 
 pub use figure::{Figure, place_of};
 pub use page::{push_page_end, push_page_part, push_page_start};
 pub use panel::Panel;
-pub use places::place_in_order;
 pub use plot::push_plot;
+pub use plot_layout::place_in_order;
 pub use turns::{MOST_TURNS, Turn, Turns};

@@ -3,7 +3,7 @@ ghost use Rattle.std.specs.Prelude.{◌≡◌, ◌++◌, OnOk, length, string_by
 ghost use Rattle.xb_plot.specs.Places.{place_in_order};
 ghost use Rattle.xb_plot.specs.Names.{every_name, look_of, name_start, name_text, named_text, names_text};
 
-use crate::places::{NAMED_STEP, NAMES, place_in_order, step_of};
+use crate::plot_layout::{NAMED_STEP, NAMES, place_in_order, step_of};
 use crate::turns::Turn;
 use std::alloc::AllocError;
 use xb_model::MOST_PULSES;

@@ -5,7 +5,7 @@ ghost use Rattle.xb_plot.specs.Panels.{heading_text, panel_text};
 use crate::bands::{push_bands, push_limits};
 use crate::dots::push_dots;
 use crate::figure::{Figure, name_of, top_of};
-use crate::places::{ABOVE, LEFT};
+use crate::plot_layout::{ABOVE, LEFT};
 use crate::turns::Turn;
 use std::alloc::{AllocError, Global};
 use xb_contact::Scale;

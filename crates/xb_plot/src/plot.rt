@@ -5,7 +5,7 @@ ghost use Rattle.xb_plot.specs.Plots.{head_text, legend_text, older_text, panels
 use crate::figure::Figure;
 use crate::names::push_names;
 use crate::panel::{Panel, push_panel};
-use crate::places::{LEFT, LEGEND, OLDER, SUMMARY, TITLE, WHOLE_HEIGHT, WIDTH};
+use crate::plot_layout::{LEFT, LEGEND, OLDER, SUMMARY, TITLE, WHOLE_HEIGHT, WIDTH};
 use crate::turns::Turn;
 use std::alloc::{AllocError, Global};
 use xb_contact::Scale;

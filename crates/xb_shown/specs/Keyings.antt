@@ -9,7 +9,7 @@ use Rattle.xb_measured.specs.Figures.{figures_of}
 use Rattle.xb_measured.specs.Meanings.{name_text}
 use Rattle.xb_measured.specs.Verdicts.{limit_word, misses}
 use Rattle.xb_shown.specs.declared.heading.Title.{Title}
-use Rattle.xb_shown.specs.declared.places.TheConstants.{ROW_MS}
+use Rattle.xb_shown.specs.declared.picture_layout.TheConstants.{ROW_MS}
 use Rattle.xb_shown.specs.declared.rows.Row.{Row}
 use Rattle.xb_shown.specs.Headings.{heading_words}
 

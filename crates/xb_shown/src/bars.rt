@@ -4,7 +4,7 @@ ghost use Rattle.xb_svg.specs.Drawings.{says};
 ghost use Rattle.xb_shown.specs.Keyings.{length_words, name_words};
 
 use crate::looks::{NAME, SMALL};
-use crate::places::{AXIS, LANE, bar_height, lane_foot, middle_of, place_of, row_top};
+use crate::picture_layout::{AXIS, LANE, bar_height, lane_foot, middle_of, place_of, row_top};
 use crate::rows::{PlacedKey, end_of};
 use crate::sheet::{put_band, put_text};
 use std::alloc::{AllocError, Global};

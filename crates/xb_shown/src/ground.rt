@@ -3,7 +3,7 @@ ghost use Rattle.std.specs.Prelude.{◌≡◌, OnOk};
 ghost use Rattle.xb_svg.specs.Drawings.{says};
 
 use crate::looks::{FREQUENCY, SMALL};
-use crate::places::{AXIS, LEFT, ROW_MS, UNITS_PER_MS, lane_foot, row_top};
+use crate::picture_layout::{AXIS, LEFT, ROW_MS, UNITS_PER_MS, lane_foot, row_top};
 use crate::rows::{PlacedKey, Row, leads};
 use crate::sheet::{put_band, put_scale};
 use std::alloc::{AllocError, Global};

@@ -5,7 +5,7 @@ ghost use Rattle.xb_shown.specs.Headings.{digit_text, entry_words, heading_words
 ghost use Rattle.xb_shown.specs.Headings.{loose_words, number_words, title_words};
 
 use crate::looks::{HEAD, RED_HEAD};
-use crate::places::{LEFT, row_top};
+use crate::picture_layout::{LEFT, row_top};
 use crate::sheet::put_text;
 use std::alloc::{AllocError, Global};
 use xb_measured::{NamedKey, began_ms, seconds_text};

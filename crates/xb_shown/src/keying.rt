@@ -8,7 +8,7 @@ use crate::ground::put_ground;
 use crate::heading::put_heading;
 use crate::misses::put_misses;
 use crate::part::Part;
-use crate::places::{WIDTH, row_top};
+use crate::picture_layout::{WIDTH, row_top};
 use crate::rows::{PlacedKey, row_below, row_for};
 use std::alloc::{AllocError, Global};
 use xb_measured::{Heard, NamedKey, figures_of, misses};

@@ -24,7 +24,7 @@ mod misses;
 mod page;
 mod part;
 mod picture;
-mod places;
+mod picture_layout;
 mod rows;
 mod sections;
 mod sheet;

@@ -7,7 +7,7 @@ ghost use Rattle.xb_shown.specs.Keyings.{gap_words, length_words, missed_words};
 
 use crate::bars::{begin_place, length_words, middle_place};
 use crate::looks::MISSED;
-use crate::places::{AXIS, LANE, middle_of, place_of, row_top};
+use crate::picture_layout::{AXIS, LANE, middle_of, place_of, row_top};
 use crate::rows::{PlacedKey, leads};
 use crate::sheet::{put_band, put_text};
 use std::alloc::{AllocError, Global};

@@ -6,7 +6,7 @@ ghost use Rattle.xb_shown.specs.Pictures.{others_text, others_words};
 use crate::keying::put_part;
 use crate::looks::RED_HEAD;
 use crate::part::Part;
-use crate::places::{LEFT, WIDTH, row_top};
+use crate::picture_layout::{LEFT, WIDTH, row_top};
 use crate::sheet::put_text;
 use std::alloc::{AllocError, Global};
 use std::marker::Model;

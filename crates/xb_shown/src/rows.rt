@@ -2,7 +2,7 @@
 ghost use Rattle.std.specs.Prelude.{◌≡◌};
 ghost use Rattle.xb_shown.specs.Keyings.{end_of, from_of, leads, row_from};
 
-use crate::places::ROW_MS;
+use crate::picture_layout::ROW_MS;
 use xb_measured::Figures;
 
 /// A row of a picture.

@@ -24,6 +24,7 @@
 
 mod bytes;
 mod call;
+mod call_lines;
 mod fault;
 mod key_line;
 pub mod laws;
@@ -35,7 +36,6 @@ mod pulses;
 mod relaying;
 mod request;
 mod sign;
-mod telling;
 mod words;
 
 pub use bytes::Unread;

@@ -2,10 +2,10 @@
 ghost use Rattle.std.specs.Prelude.{◌≡◌};
 
 use crate::call::Call;
+use crate::call_lines::{HEADER, dialled_line, entry_line, is_refusal, totals_line};
 use crate::fault::WritingFault;
 use crate::request::Form;
 use crate::sign::Sign;
-use crate::telling::{HEADER, dialled_line, entry_line, is_refusal, totals_line};
 use std::alloc::{AllocError, Global};
 use std::io::Write;
 use xb_incoming::Register;

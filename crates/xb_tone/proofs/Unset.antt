@@ -6,9 +6,9 @@ use Rattle.xb_signal.specs.Levels.{amplitudes}
 use Rattle.xb_signal.specs.Settings.{standard_setting}
 use Rattle.xb_tone.specs.declared.given.Given.{Given}
 use Rattle.xb_tone.specs.declared.given.Given.TheVariants.{Absent, Wrong, Said}
-use Rattle.xb_tone.specs.declared.manner.Beside.{Beside}
-use Rattle.xb_tone.specs.declared.manner.Hole.{Hole}
-use Rattle.xb_tone.specs.declared.manner.Manner.{Manner}
+use Rattle.xb_tone.specs.declared.sound_options.Beside.{Beside}
+use Rattle.xb_tone.specs.declared.sound_options.Hole.{Hole}
+use Rattle.xb_tone.specs.declared.sound_options.Manner.{Manner}
 use Rattle.xb_tone.specs.Givens.{is_given}
 use Rattle.xb_tone.specs.Manners.{setting_of}
 use Rattle.xb_tone.specs.NoisyKeys.{NoOptionsAreStandard}

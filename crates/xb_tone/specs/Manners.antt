@@ -13,9 +13,9 @@ use Rattle.xb_signal.specs.declared.steady.Steady.{Steady}
 use Rattle.xb_signal.specs.declared.word.TheConstants.{MOST_HZ}
 use Rattle.xb_signal.specs.Levels.{amplitude_of}
 use Rattle.xb_tone.specs.declared.given.Given.{Given}
-use Rattle.xb_tone.specs.declared.manner.Beside.{Beside}
-use Rattle.xb_tone.specs.declared.manner.Hole.{Hole}
-use Rattle.xb_tone.specs.declared.manner.Manner.{Manner}
+use Rattle.xb_tone.specs.declared.sound_options.Beside.{Beside}
+use Rattle.xb_tone.specs.declared.sound_options.Hole.{Hole}
+use Rattle.xb_tone.specs.declared.sound_options.Manner.{Manner}
 use Rattle.xb_tone.specs.Givens.{figure_of, given_of, is_given, ms_said, said_or, signed_tenths, time_of_key}
 
 -- a hole of so many ms, so many ms after the beginning of a key, as `10@20`

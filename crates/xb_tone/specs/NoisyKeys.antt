@@ -15,7 +15,7 @@ use Rattle.xb_signal.specs.Shapes.{standard_shape}
 use Rattle.xb_signal.specs.Steadies.{silent_steady}
 use Rattle.xb_signal.specs.SignalLaws.{names_of}
 use Rattle.xb_signal.specs.Words.{key_segments}
-use Rattle.xb_tone.specs.declared.manner.Manner.{Manner}
+use Rattle.xb_tone.specs.declared.sound_options.Manner.{Manner}
 use Rattle.xb_tone.specs.Manners.{has_manner, setting_of}
 
 -- keys of a page, after the silence before them

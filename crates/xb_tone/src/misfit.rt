@@ -1,6 +1,6 @@
 // Why words that clap takes make no sound.
 use crate::given::{signed_ms, signed_tenths};
-use crate::manner::{beside_said, hole_said, is_mu_law, level_said, pitch_of};
+use crate::sound_options::{beside_said, hole_said, is_mu_law, level_said, pitch_of};
 use xb_command::{Call, Misfit, NOTHING, Words};
 use xb_signal::amplitude_of;
 

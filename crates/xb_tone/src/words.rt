@@ -2,9 +2,9 @@
 ghost use Rattle.std.specs.Prelude.{◌≡◌, IfErr, IfOk};
 ghost use Rattle.xb_tone.specs.Options.{AskNothing, Say, SayAsked, choice_of, is_idle, is_raw, named, request_by, request_of};
 
-use crate::manner::{MOST_NOISE_PEAK, Manner, has_manner, manner_of, setting_of};
 use crate::misfit::misfit_of;
 use crate::request::{Asked, Choice, Request};
+use crate::sound_options::{MOST_NOISE_PEAK, Manner, has_manner, manner_of, setting_of};
 use xb_command::{Call, FLAG, Misfit, Program, Value, Word, Words};
 use xb_sound::Cadence;
 

@@ -14,9 +14,9 @@
 #![tactic(auto)]
 
 mod fault;
+mod fault_places;
 pub mod laws;
 mod lines;
-mod places;
 mod pulse;
 mod runs;
 mod sending;

@@ -9,7 +9,7 @@ ghost use Rattle.xb_worn.specs.SentCalls.{AreSent};
 ghost use Rattle.xb_worn.specs.WornRows.{IsFaultOf, IsHeard, IsOnLine, TellsMisfit, TellsOf, is_time, misfit_from, rows_by_line, times_fit, with_call, with_calls, worn_rows};
 
 use crate::fault::Fault;
-use crate::places::{first_absent, first_repeated};
+use crate::fault_places::{first_absent, first_repeated};
 use crate::runs::{RunFault, is_time, push_next_call};
 use crate::sending::pulses_of_call;
 use crate::wear::Wear;

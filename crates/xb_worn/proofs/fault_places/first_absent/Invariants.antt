@@ -1,6 +1,6 @@
 use Rattle.std.proofs.Common.{◌≡◌, ◌+◌, drop}
 use Rattle.xb_worn.specs.Places.{absent_from}
-use Rattle.xb_worn.proofs.places.first_absent.Given as goal
+use Rattle.xb_worn.proofs.fault_places.first_absent.Given as goal
 
 abbrev pub invariant-loop-fault : goal.invariant-loop-fault
 invariant-loop-fault l = record {

@@ -2,7 +2,7 @@ use Rattle.std.proofs.Common.{◌++◌, ◌∙◌, ap, map, refl, string_bytes}
 use Rattle.std.proofs.lemmas.Result.{on_ok_weaker}
 use Rattle.xb_heard.specs.Attempts.{attempt_in}
 use Rattle.xb_report.specs.Pages.{section_text}
-use Rattle.xb_hear.proofs.manner.push_drawn.Goals as goal
+use Rattle.xb_hear.proofs.line_page.push_drawn.Goals as goal
 
 pub returns : goal.returns
 returns c =
