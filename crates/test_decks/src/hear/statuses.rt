@@ -52,7 +52,7 @@ const FAULTS: &[Fault] = &[
     ),
     (
         &["--wire", "7=1", "--line", "8"],
-        b"0,1\n1,1\n",
+        b"0.0,1\n1.0,1\n",
         b"mfhear: line 8 has no attempt\n",
     ),
     (
