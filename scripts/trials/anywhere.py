@@ -293,6 +293,9 @@ class Trial:
                     for words in ([it], [it, "x"], [it, "-1"], [f"{it}=10"], [it, "1", it, "2"], [it, ""], [it[:-1]],
                                   [it, "99999999999999999999"], ["no-such-file", it]):
                         yield Case("words", [*first, *words])
+        for name in "", ".", "/", "examples", "examples/calls.deck/", "examples/calls.deck/x", "/dev/null", "x" * 300:
+            for words in "mfbank", "mfrx", "mfroute", "mftone", "mfloop --table", "mfoffice join", "mfoffice join --list":
+                yield Case("words", [*words.split(), name])
         for words in ("mfoffice", "mfoffice run", "mfoffice other --parts", "mf mfbank.exe examples/calls.deck",
                       "mf /bin/mfdial no-such-file", "mf no-such-program --json"):
             yield Case("words", words.split())
