@@ -12,6 +12,7 @@ ghost use Rattle.xb_check.specs.TallyTexts.{more_of, text_of_tally};
 
 use crate::deck_contents::Contents;
 use crate::doubts::push_doubts;
+use crate::unreached::push_unreached_in;
 use std::alloc::{AllocError, Global};
 use xb_deck::DeckFault;
 use xb_findings::{EACH_KIND, Finding, KeptLine, LinesRead, Tally, What, push_fault, read_lines};
@@ -232,8 +233,11 @@ fn push_told<'a>(
     ensures { OnOk result (tallied tally.new ≡ with_all (tallied tally.old) (told_of said.now deck.now)) }
 {
     match said {
-        Ok(Some(contents)) => push_doubts(alloc, tally, contents, kept),
-        Ok(None) => Ok(()),
+        Ok(Some(contents)) => {
+            push_unreached_in(alloc, tally, deck)?;
+            push_doubts(alloc, tally, contents, kept)
+        }
+        Ok(None) => push_unreached_in(alloc, tally, deck),
         Err(fault) => push_fault(alloc, tally, *fault, deck),
     }
 }
