@@ -29,7 +29,7 @@ begins_of_tree (Some tree) = begins_of_items (number_items (get_member (codes "n
 
 -- three digits, as a text has them
 abbrev pub three_digits : ℕ → List ℕ
-three_digits n = 48 + n / 100 % 10 ∷ 48 + n / 10 % 10 ∷ 48 + n % 10 ∷ []
+three_digits n = (48 + n / 100 % 10) ∷ (48 + n / 10 % 10) ∷ (48 + n % 10) ∷ []
 
 -- digits begin as another entry does, which is longer
 abbrev pub begin_longer : List ℕ → List ℕ → List ℕ → Bool
