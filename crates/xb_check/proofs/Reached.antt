@@ -1,12 +1,12 @@
 -- What entries begin with, and what is told of them, one after the other.
-use Rattle.std.proofs.Common.{◌≡◌, ◌∙◌, ◌+◌, ◌<◌, ℕ, List, [], ◌∷◌, ◌++◌, ap, append_assoc, drop, get_or, length, map, refl, sym}
+use Rattle.std.proofs.Common.{◌≡◌, ◌∙◌, ◌+◌, ◌<◌, ℕ, suc, List, [], ◌∷◌, ◌++◌, ap, append_assoc, drop, false, get_or, length, map, refl, sym, true}
 use Rattle.std.specs.Borrow.{Bor}
 use Rattle.std.proofs.lemmas.List.{map-append}
 use Rattle.toml.specs.Data.{item}
 use Rattle.toml.specs.View.{items_view, view}
 use Rattle.toml.specs.declared.value.Value.{Value}
 use Rattle.toml.proofs.Views.{items_view-drop}
-use Rattle.xb_check.specs.Unreached.{begins_of, begins_of_items, told_of_entry, unreached_from}
+use Rattle.xb_check.specs.Unreached.{begins_of, begins_of_items, decides, decides_from, three_digits, told_of_entry, unreached_from}
 use Rattle.xb_findings.specs.Tallies.{Tallied, with_all}
 use Rattle.xb_findings.proofs.Tellings.{with_all-append}
 
@@ -23,6 +23,21 @@ begins_more values k value entries begins h e is =
     ∙ append_assoc texts (begins.now ∷ []) (begins_of_items rest)
     ∙ ap (λ (text : List ℕ). texts ++ text ∷ begins_of_items rest) is
     ∙ ap (λ items. texts ++ begins_of_items items) (sym at)
+
+-- an entry decides of the first of so many numbers, or of none of them but the others, or of none
+module _ (all : List (List ℕ)) (begins : List ℕ) (n count : ℕ) where
+  pub decides_here : decides all begins (three_digits n) ≡ true → decides_from all begins n (suc count) ≡ true
+  unfolding decides_from
+  decides_here is = rw is refl
+
+  pub decides_later : decides all begins (three_digits n) ≡ false
+      → decides_from all begins n (suc count) ≡ decides_from all begins (n + 1) count
+  unfolding decides_from
+  decides_later is = rw is refl
+
+pub decides_none : (all : List (List ℕ)) (begins : List ℕ) (n : ℕ) → decides_from all begins n 0 ≡ false
+unfolding decides_from
+decides_none all begins n = refl
 
 -- one entry more was told of
 pub told_more_entry : (before after : Tallied) (all : List (List ℕ)) (deck : List ℕ) (n : ℕ) (begins : List ℕ) (rest : List (List ℕ))

@@ -1,6 +1,6 @@
 -- Entries of numbers that no number reaches, since longer ones decide of all that begins so.
-use Rattle.std.specs.Prelude.{ℕ, nat_eq, ◌+◌, ◌/◌, ◌%◌, ◌&&◌, not, nat_lt, if◌then◌else◌, List, [], ◌∷◌, ◌++◌, length, codes, Bool, Option, Some, None, option_and_then, unwrap_or}
-use Rattle.std.specs.List.{list_any, range_with_len, starts_with}
+use Rattle.std.specs.Prelude.{ℕ, zero, suc, nat_eq, ◌+◌, ◌/◌, ◌%◌, ◌&&◌, ◌||◌, not, nat_lt, if◌then◌else◌, List, [], ◌∷◌, ◌++◌, length, codes, Bool, false, Option, Some, None, option_and_then, unwrap_or}
+use Rattle.std.specs.List.{list_any, starts_with}
 use Rattle.toml.specs.Data.{Data, Items, Members, no_items, item, as_array, as_str, as_table, get_member}
 use Rattle.xb_findings.specs.Findings.{Found}
 use Rattle.xb_findings.specs.Places.{table_of}
@@ -29,7 +29,7 @@ begins_of_tree (Some tree) = begins_of_items (number_items (get_member (codes "n
 
 -- three digits, as a text has them
 abbrev pub three_digits : ℕ → List ℕ
-three_digits n = 48 + n / 100 % 10 ∷ 48 + n / 10 % 10 ∷ 48 + n % 10 ∷ []
+three_digits n = (48 + n / 100 % 10) ∷ (48 + n / 10 % 10) ∷ (48 + n % 10) ∷ []
 
 -- digits begin as another entry does, which is longer
 abbrev pub begin_longer : List ℕ → List ℕ → List ℕ → Bool
@@ -40,9 +40,15 @@ abbrev pub decides : List (List ℕ) → List ℕ → List ℕ → Bool
 decides entries begins digits =
     starts_with nat_eq digits begins && not (list_any (begin_longer begins digits) entries)
 
+-- whether an entry decides of one of so many numbers of three digits, from n on
+unfoldable pub decides_from : List (List ℕ) → List ℕ → ℕ → ℕ → Bool
+decides_from entries begins n zero = false
+decides_from entries begins n (suc count) =
+    decides entries begins (three_digits n) || decides_from entries begins (n + 1) count
+
 -- whether a number reaches an entry; which entry decides, three digits tell
-unfoldable pub is_reached : List (List ℕ) → List ℕ → Bool
-is_reached entries begins = list_any (λ n. decides entries begins (three_digits n)) (range_with_len 0 1000)
+abbrev pub is_reached : List (List ℕ) → List ℕ → Bool
+is_reached entries begins = decides_from entries begins 0 1000
 
 -- what is told of entry n
 abbrev pub told_of_entry : List (List ℕ) → List ℕ → ℕ → List ℕ → List Found

@@ -114,7 +114,6 @@ fn decides(entries: &[&[u8]], begins: &[u8], digits: &[u8]) -> bool
 }
 
 // Whether a number reaches an entry.
-#[tactic(auto, unfolding(crate::specs::Unreached::is_reached))]
 fn is_reached(entries: &[&[u8]], begins: &[u8]) -> bool
     ensures { result ≡ is_reached (map (λ other. other.now) entries.now) begins.now }
 {

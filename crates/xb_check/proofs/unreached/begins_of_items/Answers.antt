@@ -1,7 +1,6 @@
-use Rattle.std.proofs.Common.{◌≡◌, ◌∙◌, ◌∷◌, [], ◌++◌, ◌+◌, ap, append_assoc, drop, map, rules, sym}
-use Rattle.std.proofs.lemmas.List.{map-append}
-use Rattle.toml.specs.View.{items_view, view}
-use Rattle.xb_check.specs.Unreached.{begins_of, begins_of_items}
+use Rattle.std.proofs.Common.{◌≡◌, ◌∙◌, ◌∷◌, [], ◌++◌, ◌+◌, ap, drop, map, rules}
+use Rattle.toml.specs.View.{items_view}
+use Rattle.xb_check.specs.Unreached.{begins_of_items}
 use Rattle.xb_check.proofs.Reached.{begins_more}
 use Rattle.xb_check.proofs.unreached.begins_of_items.Goals as goal
 
