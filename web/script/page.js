@@ -374,23 +374,21 @@ class Office {
   }
 }
 
-const bytesOf = (id) => Uint8Array.from(atob($(id).textContent), (letter) => letter.charCodeAt(0));
-
 // A browser without 64-bit memory refuses the module, and takes its copy.
 async function openModule() {
-  const wasm = bytesOf('module');
+  const wasm = await bytesOf('module');
   try {
     if (location.hash.includes('lowered')) throw new Error('the copy is asked for');
     return await Module.open(wasm);
   } catch {
-    const module = await Module.open(bytesOf('lowered'));
+    const module = await Module.open(await bytesOf('lowered'));
     $('copy').hidden = false;
     return module;
   }
 }
 
 async function openOffice() {
-  const wasm = bytesOf('reader');
+  const wasm = await bytesOf('reader');
   return new Office(await openModule(), await Reader.open(wasm), wasm);
 }
 

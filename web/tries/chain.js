@@ -3,6 +3,7 @@
 'use strict';
 const fs = require('fs');
 const path = require('path');
+const { gunzipSync } = require('zlib');
 
 const SCRIPTS = ['reader.js', 'memory.js', 'module.js', 'ear.js', 'incoming.js'];
 const NAMES = ['Module', 'Reader', 'Refused', 'Kind', 'Ear', 'heardText', 'Incoming', 'timedKeyOf'];
@@ -13,7 +14,7 @@ const chain = new Function(`'use strict';\n${text}\nreturn { ${NAMES.join(', ')}
 // The module of a page, which is what is tried, its copy, and the reader.
 function modulesOf(page) {
   const html = fs.readFileSync(page, 'utf8');
-  const of = (id) => Buffer.from(new RegExp(`id="${id}">([^<]*)<`).exec(html)[1], 'base64');
+  const of = (id) => gunzipSync(Buffer.from(new RegExp(`id="${id}">([^<]*)<`).exec(html)[1], 'base64'));
   return { module: of('module'), lowered: of('lowered'), reader: of('reader') };
 }
 
