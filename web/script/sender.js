@@ -149,7 +149,7 @@ class Sender {
   draw(keys) {
     const { clientWidth, clientHeight } = this.top;
     const larger = largerBy();
-    const [width, height] = [Math.max(280, (clientWidth || 600) / larger), (clientHeight || 180) / larger];
+    const [width, height] = [Math.max(240, (clientWidth || 600) / larger), (clientHeight || 180) / larger];
     this.top.setAttribute('viewBox', `0 0 ${width} ${height}`);
     this.top.textContent = '';
     this.top.setAttribute('aria-label', keys.length ? `Keys: ${keys.map(keyName).join(' ')}` : 'No keys are sent');
