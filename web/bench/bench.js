@@ -142,8 +142,11 @@ class Bench {
     await this.read(isStill);
   }
 
+  // A trunk of one channel leaves nothing to be chosen.
   showKind() {
-    $('form').className = `${$('kind').value}${this.isWav ? ' wav' : ''}`;
+    const isTrunk = $('kind').value === 'trunk';
+    $('form').className = `${isTrunk ? 'trunk' : 'loop'}${this.isWav ? ' wav' : ''}`;
+    $('wire').parentElement.hidden = isTrunk && $('wire').length < 2;
   }
 
   asks() {
@@ -157,7 +160,7 @@ class Bench {
     if ($('inverted').checked) loop.push('--inverted');
     return {
       wire: loop, loop: $('ringing').checked ? ['--ringing'] : [], dial: ['--dial', $('dial').value],
-      channel: $('wire').value ? ['--channel', $('wire').value] : [],
+      channel: $('wire').length > 1 ? ['--channel', $('wire').value] : [],
     };
   }
 
@@ -169,6 +172,7 @@ class Bench {
     await new Reading(this.programs, this.shown, given).show(isStill);
     if (!isStill()) return;
     this.end(`${this.file.name}: read in ${((performance.now() - began) / 1000).toFixed(1)} s.`);
+    if ($('shown').getBoundingClientRect().top > innerHeight / 2) $('shown').scrollIntoView({ block: 'start' });
   }
 
   // Another choice reads the recording anew; what is typed, once no more is.

@@ -57,7 +57,7 @@ const TRUNK = {
     const keys = turns.slice(turns.findLastIndex((it) => isEntry(it) || it.key === 'KP') + 1).map(({ key }) => key);
     return keys.join('') || turn.key;
   },
-  verdict: (turn) => (isEntry(turn) ? turn.doubts.map(wordsOfDoubt).join(', ') || 'keyed' : wordsOfKey(turn)),
+  verdict: (turn) => (isEntry(turn) ? turn.doubts.map(wordsOfDoubt).join('; ') || 'keyed' : wordsOfKey(turn)),
   row: (turn) => (isEntry(turn) ? [turn.sent, '', '', '', TRUNK.verdict(turn)]
     : [turn.key, `${turn.low_hz} + ${turn.high_hz}`, `${tenths(turn.low_dbm0_tenths)}, ${tenths(turn.high_dbm0_tenths)}`,
       String(turn.length_ms), TRUNK.verdict(turn)]),
@@ -117,6 +117,7 @@ class Live {
     const { length } = source;
     const given = await this.programs.run(kind.words(source), source.blob(length));
     if (turn !== this.turn) return;
+    // a recording that has not begun yet, or is silence, is a fault of the program, and none here
     const objects = given.status === 0 ? objectsOf(given) : [];
     const turns = kind.turnsOf(objects);
     this.show([...this.done, ...turns], given.err);

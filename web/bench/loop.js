@@ -84,12 +84,12 @@ class LoopReading {
 
   showPage(words, page) {
     const report = this.shown.report('What the office keys to the next one');
+    report.command(this.named(words));
     report.text(['mfbank', `${this.base}.deck`], page);
     report.save('Save the page', `${this.base}.page`, 'text/plain', () => page.out);
     report.save('Save the deck', `${this.base}.deck`, 'text/plain', () => this.deck);
     const sound = async () => (await this.programs.run(['mftone'], new Blob([page.out]))).out;
     report.save('Save its tones', `${this.base}_tones.wav`, 'audio/wav', sound);
-    make('p', { class: 'command' }, report.top, commandOf(this.named(words)));
   }
 
   // The words of a command that reads the file by its name.

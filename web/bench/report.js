@@ -56,9 +56,11 @@ class Report {
     make('img', { src: address, alt: words }, frame);
   }
 
+  command(words) { make('p', { class: 'command' }, this.top, commandOf(words)); }
+
   // What a program wrote, its first lines at least, below the words that it was run by.
   text(words, { out, err, status }) {
-    make('p', { class: 'command' }, this.top, commandOf(words));
+    this.command(words);
     const lines = decoded(out).split('\n');
     const more = lines.length - MOST_SHOWN_LINES;
     const shown = more > 0 ? lines.slice(0, MOST_SHOWN_LINES).join('\n') : lines.join('\n');

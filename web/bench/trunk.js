@@ -1,6 +1,8 @@
 // A sound of a trunk: the numbers that were keyed on it, each key with its tones, and what is doubtful.
 
 const isEntry = (object) => object.entry !== undefined;
+const MAY_BE = { MISSING: 'a key may be missing', EXTRA: 'a key may be too many', CUT: 'its end may be cut off' };
+const wordsOfDoubt = ({ key, may_be: what }) => `${MAY_BE[what] ?? what}, at key ${key}`;
 
 class TrunkReading {
   constructor(programs, shown, { name, input, asks }) {
@@ -20,7 +22,8 @@ class TrunkReading {
     for (const { err } of [page, tones]) this.shown.warn(err);
     const entries = objectsOf(json).filter(isEntry);
     for (const { sent, doubts } of entries) {
-      this.shown.answer(sent, doubts.length ? `doubtful: ${doubts.join(', ')}` : 'keyed', doubts.length ? 'bad' : 'good');
+      const words = doubts.map(wordsOfDoubt).join('; ');
+      this.shown.answer(sent, words ? `doubtful: ${words}` : 'keyed', words ? 'bad' : 'good');
     }
     if (entries.length === 0) this.shown.answer('–', 'no keying is heard', '');
     this.showKeys(tones, picture);

@@ -45,6 +45,18 @@ class Guest extends Browser {
     await this.untilRead(name);
   }
 
+  async drop(name, bytes) {
+    await this.run(`(() => {
+      const bytes = Uint8Array.from(atob('${bytes.toString('base64')}'), (letter) => letter.charCodeAt(0));
+      const dropped = new DataTransfer();
+      dropped.items.add(new File([bytes], '${name}'));
+      for (const name of ['dragover', 'drop']) {
+        document.body.dispatchEvent(new DragEvent(name, { dataTransfer: dropped, bubbles: true, cancelable: true }));
+      }
+    })()`);
+    await this.untilRead(name);
+  }
+
   set(id, value) {
     return this.run(`(() => {
       const it = document.getElementById('${id}');
@@ -124,22 +136,20 @@ async function trySounds(it) {
   is('and heard', await answersOf(it), ['565678keyed']);
   const sound = fs.readFileSync(at('seven_digits.wav'));
   is('its reports', await reportsOf(it), [said(['mfrx', '--tones'], sound), said(['mfrx'], sound)].map(String));
+  await it.run('document.getElementById("said").textContent = ""');
   await it.run('document.querySelector("[data-example=\'seven_digits.wav\']").click()');
-  await it.until('document.querySelector("#said").textContent === "" || true');
   await it.untilRead('seven_digits.wav');
   is('the page makes the same sound itself', await answersOf(it), ['565678keyed']);
 }
 
 async function tryFaults(it) {
   await it.visit();
-  await it.run(`(() => {
-    const dropped = new DataTransfer();
-    dropped.items.add(new File(['time;loop\\n0;1\\n'], 'other.csv'));
-    for (const name of ['dragover', 'drop']) {
-      document.body.dispatchEvent(new DragEvent(name, { dataTransfer: dropped, bubbles: true, cancelable: true }));
-    }
-  })()`);
-  await it.untilRead('other.csv');
+  const doubtful = fs.readFileSync(at('seven_digits.wav'));
+  doubtful.fill(0, 44 + 2 * 7520, 44 + 2 * 8120);     // the third digit, from 940 ms to 1,015
+  await it.drop('doubtful.wav', doubtful);
+  is('a key that is missing is doubted', await answersOf(it), ['56678doubtful: a key may be missing, at key 4']);
+  is('in the words of mfrx', /entry 1 .*one may be missing/.test((await it.texts('#warnings p')).join()), true);
+  await it.drop('other.csv', Buffer.from('time;loop\n0;1\n'));
   is('what is of no form is refused in the words of mfloop', await it.texts('#warnings p'),
     [String(spawnSync(mf[0], [...mf.slice(1), 'mfloop', '--list'], { input: 'time;loop\n0;1\n' }).stderr).trim()]);
   is('and its form may be named', await it.run('document.getElementById("more").open'), true);
