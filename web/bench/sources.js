@@ -2,8 +2,9 @@
 // came in; what was read of it before is cut off.
 
 const MS = 1000;
-// The rates that are asked for, in this order: a browser that makes none of its own of a microphone has the second.
-const RATES = [8000, 48000];
+// The rates that are asked for, in this order. A browser that makes no other rate of a microphone has the second, or its
+// own, which a program may refuse.
+const RATES = [8000, 48000, undefined];
 const BAUD = 500000;
 const MOST_LINE_BYTES = 200;
 // Without what a browser does to a voice: it takes clicks and tones that go on for noise.
@@ -24,26 +25,31 @@ class Microphone {
 
   // Whether the browser gives it.
   async open() {
-    for (const rate of RATES) if (await this.openAt(rate)) return true;
-    return false;
-  }
-
-  async openAt(rate) {
     try {
       const stream = await navigator.mediaDevices.getUserMedia({ audio: PLAIN_SOUND });
       this.opened.push(() => stream.getTracks().forEach((track) => track.stop()));
-      const audio = new AudioContext({ sampleRate: rate });
-      this.opened.push(() => audio.close());
+      for (const rate of RATES) if (await this.hearAt(rate, stream)) return true;
+    } catch {
+      // no microphone, or nobody allowed it
+    }
+    this.close();
+    return false;
+  }
+
+  async hearAt(rate, stream) {
+    const audio = new AudioContext(rate && { sampleRate: rate });
+    try {
       await audio.audioWorklet.addModule(`data:text/javascript,${encodeURIComponent(MICROPHONE_SCRIPT)}`);
       const samples = new AudioWorkletNode(audio, 'samples');
       samples.port.onmessage = ({ data }) => this.add(data);
       audio.createMediaStreamSource(stream).connect(samples).connect(audio.destination);
-      this.rate = rate;
-      return true;
     } catch {
-      this.close();
+      audio.close();
       return false;
     }
+    this.opened.push(() => audio.close());
+    this.rate = audio.sampleRate;
+    return true;
   }
 
   close() { for (const end of this.opened.splice(0)) end(); }
