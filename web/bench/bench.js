@@ -4,6 +4,8 @@ const EXAMPLES = ['bounced.vcd', 'two_zeros.vcd'];
 const SOUND_EXAMPLE = 'seven_digits.wav';
 const SAYS_SO_MS = 300;
 const CHANGED_MS = 400;
+// The wires of a long text are those of its beginning, which is read sooner.
+const LISTED_BYTES = 4194304;
 
 const isSound = async (file) => decoded(new Uint8Array(await file.slice(8, 12).arrayBuffer())) === 'WAVE';
 
@@ -121,14 +123,24 @@ class Bench {
     return given;
   }
 
+  // The whole lines of the first part of a long text, and else the recording as it is.
+  async beginning() {
+    if (this.isWav || this.file.size <= LISTED_BYTES) return this.file;
+    const part = this.file.slice(0, LISTED_BYTES);
+    const end = new Uint8Array(await part.arrayBuffer()).lastIndexOf('\n'.charCodeAt(0)) + 1;
+    return end > 0 ? part.slice(0, end) : this.file;
+  }
+
   async findWires(isStill) {
-    const listed = await this.programs.run(['mfloop', '--list', ...this.formWords()], this.file);
+    const beginning = await this.beginning();
+    const listed = await this.programs.run(['mfloop', '--list', ...this.formWords()], beginning);
     if (!isStill()) return;
+    const where = beginning === this.file ? '' : ' in its beginning';
     $('choices').hidden = false;
     const wires = wiresOf(listed);
     $('wire').textContent = '';
     for (const { name, edges } of wires) {
-      make('option', { value: name }, $('wire'), edges === null ? name : `${name}: ${plural(edges, 'edge')}`);
+      make('option', { value: name }, $('wire'), edges === null ? name : `${name}: ${plural(edges, 'edge')}${where}`);
     }
     $('wire').value = (wires.find(({ edges }) => edges > 0) ?? wires[0])?.name ?? '';
     if (listed.status !== 0 && $('kind').value === 'loop') {

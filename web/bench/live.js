@@ -1,5 +1,5 @@
-// What is heard or watched now. A program takes a whole recording, so twice a second one reads all that came in since
-// the last pause, and what it told of what is past is kept.
+// What is heard or watched now. A program takes a whole recording, so twice a second one reads all that came in
+// since the last pause, and what it told of what is past is kept.
 
 const LOOKS_MS = 500;
 const KEPT_MS = 20000;
@@ -28,12 +28,13 @@ const DIAL = {
   look: ({ verdict, fault }) => (fault ? 'bad' : VERDICTS[verdict]?.[0] ?? ''),
   figure: ({ digit }) => String(digit ?? '×'),
   verdict: ({ verdict, fault }) => (fault ? FAULTS[fault.kind] ?? fault.kind : VERDICTS[verdict]?.[1] ?? ''),
-  row: (turn) => [DIAL.figure(turn), tenths(turn.speed_tenths), tenths(turn.open_permille), tenths(turn.bounce_ms_tenths),
-    DIAL.verdict(turn)],
+  row: (turn) => [DIAL.figure(turn), tenths(turn.speed_tenths), tenths(turn.open_permille),
+    tenths(turn.bounce_ms_tenths), DIAL.verdict(turn)],
   told: (turn) => {
     const speed = turn.speed_tenths === null ? '' : `${tenths(turn.speed_tenths)} pulses a second, `
       + `${tenths(turn.open_permille)} % break`;
-    return [speed, DIAL.verdict(turn)].filter(Boolean).join(': ') || `${plural(turn.pulses, 'pulse')}: too few to judge`;
+    const words = [speed, DIAL.verdict(turn)].filter(Boolean).join(': ');
+    return words || `${plural(turn.pulses, 'pulse')}: too few to judge`;
   },
   waits: 'Turn the dial.',
 };
@@ -58,9 +59,11 @@ const TRUNK = {
     return keys.join('') || turn.key;
   },
   verdict: (turn) => (isEntry(turn) ? turn.doubts.map(wordsOfDoubt).join('; ') || 'keyed' : wordsOfKey(turn)),
-  row: (turn) => (isEntry(turn) ? [turn.sent, '', '', '', TRUNK.verdict(turn)]
-    : [turn.key, `${turn.low_hz} + ${turn.high_hz}`, `${tenths(turn.low_dbm0_tenths)}, ${tenths(turn.high_dbm0_tenths)}`,
-      String(turn.length_ms), TRUNK.verdict(turn)]),
+  row: (turn) => {
+    if (isEntry(turn)) return [turn.sent, '', '', '', TRUNK.verdict(turn)];
+    const levels = [turn.low_dbm0_tenths, turn.high_dbm0_tenths].map(tenths).join(', ');
+    return [turn.key, `${turn.low_hz} + ${turn.high_hz}`, levels, String(turn.length_ms), TRUNK.verdict(turn)];
+  },
   told: (turn) => TRUNK.verdict(turn),
   waits: 'Let the trunk key a number.',
 };

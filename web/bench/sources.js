@@ -1,5 +1,5 @@
-// Where live recordings come from: samples of a microphone, or lines of a microcontroller. Each keeps the last of what
-// came in; what was read of it before is cut off.
+// Where live recordings come from: samples of a microphone, or lines of a microcontroller. Each keeps the last of
+// what came in; what was read of it before is cut off.
 
 const MS = 1000;
 // The rates that are asked for, in this order. A browser that makes no other rate of a microphone has the second, or its

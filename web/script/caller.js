@@ -1,4 +1,4 @@
-// What a caller hears of the office while nobody speaks: dial tone until the first digit, then nothing, and at the end
+// What a caller hears of the office while nobody speaks: dial tone until the first digit, nothing then, and at last
 // ringback, busy tone or reorder. docs/DEFINITIONS.md has each tone, and where it is from; its samples are the module's.
 
 const Hears = { NOTHING: 0, DIAL_TONE: 1, RINGBACK: 2, BUSY: 3, REORDER: 4 };
