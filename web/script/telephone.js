@@ -68,7 +68,12 @@ class Telephone {
   }
 
   // What the far end, or a refusal, has the caller hear.
-  answer(hears, ms = ANSWERS_MS) { this.inTurn(ms, () => { this.answered = hears; }); }
+  answer(hears) {
+    this.inTurn(ANSWERS_MS, () => {
+      this.answered = hears;
+      this.showState();
+    });
+  }
 
   // ---- the hook and the dial
 
