@@ -73,7 +73,7 @@ async function tryCaller(it) {
   await it.click('#sound');
   is('with the sound off it is only told', [await heard(it), await tonesOf(it)], ['♪ busy', []]);
   await it.click('#sound');
-  await sleep(100);
+  await it.until('tones.length > 0');
   is('and with it on it goes on', await tonesOf(it), [BUSY]);
   await it.hangUp();
   await it.dial('5551234');
