@@ -107,10 +107,11 @@ class Bench {
       this.end(`${file.name} could not be read.`);
       return;
     }
-    $('raw').value = '';
+    $('raw').value = $('rate').value = '';
+    const listing = this.list();
     $('kind').value = this.isWav && await this.hasKeys() ? 'trunk' : 'loop';
     if (!isStill()) return;
-    await this.findWires(isStill);
+    await this.findWires(isStill, listing);
   }
 
   // Which of both a sound is of is asked of the program that hears trunks.
@@ -123,19 +124,15 @@ class Bench {
     return given;
   }
 
-  // The whole lines of the first part of a long text, and else the recording as it is.
-  async beginning() {
-    if (this.isWav || this.file.size <= LISTED_BYTES) return this.file;
-    const part = this.file.slice(0, LISTED_BYTES);
-    const end = new Uint8Array(await part.arrayBuffer()).lastIndexOf('\n'.charCodeAt(0)) + 1;
-    return end > 0 ? part.slice(0, end) : this.file;
+  async list() {
+    const beginning = this.isWav ? this.file : await beginningOf(this.file, LISTED_BYTES);
+    const listed = await this.programs.run(['mfloop', '--list', ...this.formWords()], beginning);
+    return { listed, where: beginning === this.file ? '' : ' in its beginning' };
   }
 
-  async findWires(isStill) {
-    const beginning = await this.beginning();
-    const listed = await this.programs.run(['mfloop', '--list', ...this.formWords()], beginning);
+  async findWires(isStill, listing = this.list()) {
+    const { listed, where } = await listing;
     if (!isStill()) return;
-    const where = beginning === this.file ? '' : ' in its beginning';
     $('choices').hidden = false;
     const wires = wiresOf(listed);
     $('wire').textContent = '';

@@ -2,6 +2,9 @@
 
 const LINE = '1';
 const TABLE = 'routes.toml';
+// So much of a deck is shown; what is saved is of all of it.
+const SHOWN_BYTES = 1048576;
+const OF_A_PART = 'The recording is long. This is of its beginning; what you save is of all of it.';
 const REASONS = {
   MUTILATED: 'a digit was spoiled', ABANDONED: 'it hung up before the number was whole',
   TIMEDOUT: 'the time was out before the number was whole', UNKNOWN: 'no route has its beginning',
@@ -36,16 +39,18 @@ class LoopReading {
       programs.run([...toBench, '--svg'], input)]);
     if (!isStill()) return;
     this.deck = new Blob([made.out]);
-    const asked = { json: ['--json'], text: [], svg: ['--line', LINE, '--svg'] };
-    const heard = await Promise.all(Object.values(asked).map((more) => programs.run(['mfhear', ...more], this.deck)));
-    const [page, checked] = await Promise.all(['mfbank', 'mfcheck'].map((it) => programs.run([it], this.deck)));
+    const deck = await beginningOf(this.deck, SHOWN_BYTES);
+    this.isPart = deck !== this.deck;
+    const asked = [['mfhear', '--json'], ['mfhear'], ['mfhear', '--line', LINE, '--svg'], ['mfbank'], ['mfcheck']];
+    const given = await Promise.all(asked.map((words) => programs.run(words, deck)));
+    const [attempts, text, picture, page, checked] = given;
     if (!isStill()) return;
     this.shown.clear(this.name);
-    for (const { err } of [made, ...heard, page, bench]) this.shown.warn(err);
+    for (const { err } of [made, attempts, text, picture, page, bench]) this.shown.warn(err);
     this.shown.warn(decoded(checked.out));
     if (made.status === 0) {
-      this.showAnswers(objectsOf(heard[0]));
-      this.showHeard(heard[1], heard[2]);
+      this.showAnswers(objectsOf(attempts));
+      this.showHeard(text, picture);
     }
     this.showBench(toBench, bench, plot);
     if (made.status === 0) this.showPage(toDeck, page);
@@ -63,7 +68,8 @@ class LoopReading {
     const report = this.shown.report('What a register heard');
     if (picture.status === 0) report.picture(picture.out, `What a register heard of ${this.name}`);
     report.text(['mfhear', `${this.base}.deck`], text);
-    report.save('Save the report', `${this.base}.heard`, 'text/plain', () => text.out);
+    if (this.isPart) report.note(OF_A_PART);
+    report.save('Save the report', `${this.base}.heard`, 'text/plain', () => this.whole(['mfhear'], text));
     if (picture.status === 0) {
       report.save('Save the picture', `${this.base}.svg`, 'image/svg+xml', () => picture.out);
     }
@@ -86,11 +92,18 @@ class LoopReading {
     const report = this.shown.report('What the office keys to the next one');
     report.command(this.named(words));
     report.text(['mfbank', `${this.base}.deck`], page);
-    report.save('Save the page', `${this.base}.page`, 'text/plain', () => page.out);
+    if (this.isPart) report.note(OF_A_PART);
+    report.save('Save the page', `${this.base}.page`, 'text/plain', () => this.whole(['mfbank'], page));
     report.save('Save the deck', `${this.base}.deck`, 'text/plain', () => this.deck);
-    const sound = async () => (await this.programs.run(['mftone'], new Blob([page.out]))).out;
+    const sound = async () => {
+      const whole = new Blob([await this.whole(['mfbank'], page)]);
+      return (await this.programs.run(['mftone'], whole)).out;
+    };
     report.save('Save its tones', `${this.base}_tones.wav`, 'audio/wav', sound);
   }
+
+  // What a program makes of the whole deck.
+  async whole(words, made) { return this.isPart ? (await this.programs.run(words, this.deck)).out : made.out; }
 
   // The words of a command that reads the file by its name.
   named([program, ...words]) { return [program, this.name, ...words]; }

@@ -1,6 +1,7 @@
 // The programs, each run in a worker of its own: several at once where the machine has several processors.
 
 const MOST_WORKERS = 4;
+const LF = 10;
 
 const encoded = (text) => new TextEncoder().encode(text);
 const decoded = (bytes) => new TextDecoder().decode(bytes);
@@ -8,6 +9,14 @@ const decoded = (bytes) => new TextDecoder().decode(bytes);
 // The objects of a program's --json.
 const objectsOf = ({ out }) => decoded(out).split('\n').filter(Boolean).map((line) => JSON.parse(line));
 const linesOf = (text) => text.split('\n').filter(Boolean);
+
+// The whole lines of the first bytes of a long text, and else the text as it is.
+async function beginningOf(text, bytes) {
+  if (text.size <= bytes) return text;
+  const part = text.slice(0, bytes);
+  const end = new Uint8Array(await part.arrayBuffer()).lastIndexOf(LF) + 1;
+  return end > 0 ? part.slice(0, end) : text;
+}
 
 class Programs {
   constructor(bytes) {

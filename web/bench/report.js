@@ -42,6 +42,14 @@ class Shown {
   report(title) { return new Report(title); }
 }
 
+// The first lines of a text that may be very long, and how many more it has.
+function firstLines(out) {
+  let [end, more] = [0, 0];
+  for (let i = 0; i < MOST_SHOWN_LINES && end >= 0; i++) end = out.indexOf(LF, end) + 1 || -1;
+  for (let at = end; at >= 0 && at < out.length; at++) if (out[at] === LF) more++;
+  return { shown: decoded(end < 0 ? out : out.subarray(0, end)), more };
+}
+
 class Report {
   constructor(title) {
     this.top = make('article', { class: 'report' }, $('reports'));
@@ -61,13 +69,13 @@ class Report {
   // What a program wrote, its first lines at least, below the words that it was run by.
   text(words, { out, err, status }) {
     this.command(words);
-    const lines = decoded(out).split('\n');
-    const more = lines.length - MOST_SHOWN_LINES;
-    const shown = more > 0 ? lines.slice(0, MOST_SHOWN_LINES).join('\n') : lines.join('\n');
+    const { shown, more } = firstLines(out);
     const label = { tabindex: 0, role: 'region', 'aria-label': commandOf(words) };
     make('pre', label, this.top, status === 0 ? shown : `${shown}${err}`);
-    if (more > 0) make('p', { class: 'told' }, this.top, `And ${more.toLocaleString('en')} lines more: save them.`);
+    if (more > 0) this.note(`And ${more.toLocaleString('en')} lines more: save them.`);
   }
+
+  note(words) { make('p', { class: 'told' }, this.top, words); }
 
   // A button that saves what is given when it is pressed.
   save(words, name, type, give) {
