@@ -51,7 +51,11 @@ export interface Row extends Given {
 }
 
 /** A key that was heard, or two other tones as `700+1500`, with its first sample and the one after its last. */
-export interface Key { key: string; low: number; high: number; from: number; until: number; }
+export interface Key {
+  key: string; low: number; high: number; from: number; until: number;
+  /** When it began and ended, in ms, as `mfrx --json` tells it. */
+  begin: number; end: number;
+}
 
 /** A call, a table or a deck is refused: the message says why, and nothing has changed. */
 export class Refused extends Error {
@@ -75,6 +79,8 @@ export interface Chain {
   route(number: string): { code: string; marks: Mark[] };
   /** The page of a deck, as mfbank prints it. */
   page(deck: string | Uint8Array): string;
+  /** The lines that mfcheck writes of a deck, also of one that is accepted. */
+  told(deck: string | Uint8Array): string[];
   /** Samples of a tone of two frequencies in Hz, 8,000 a second; 80,000 at most. */
   tone(low: number, high: number, samples: number): Int16Array;
   /** The times of a sender, in ms. */

@@ -136,6 +136,9 @@ class Chain {
   // The page of a deck, a text or bytes, as mfbank prints it. Throws its first fault.
   page(deck) { return this.reader.page(bytesOfText(deck)); }
 
+  // The lines that mfcheck writes of a deck, also of one that is accepted.
+  told(deck) { return this.reader.told(bytesOfText(deck)); }
+
   // So many samples of a tone of two frequencies in Hz, 8,000 a second.
   tone(low, high, samples) {
     const isTone = isWhole(low, MOST_HZ) && isWhole(high, MOST_HZ) && isWhole(samples, MOST_SAMPLES);
@@ -192,7 +195,8 @@ class ChainRegister {
 // A key that was heard: a window of 80 samples begins with each 20th sample.
 function heardKeyOf({ kind, value, low, high, first, past }) {
   const name = heardName({ kind, value, low, high });
-  return { key: name, low, high, from: 20 * first, until: 20 * (past - 1) + 80 };
+  const { begin, end } = timedKeyOf({ kind, value, first, past });
+  return { key: name, low, high, from: 20 * first, until: 20 * (past - 1) + 80, begin, end };
 }
 
 // What an ear told of that key.

@@ -13,6 +13,9 @@ const STEP_ANGLE = 30;
 const HOLE_DISTANCE = 112;
 const HOLE_RADIUS = 24;
 const DIAL_WIDTH = 320;
+// Letters are at least so many pixels high, and where they would not fit into the holes then, there are none.
+const LEAST_LETTERS = 12;
+const LEAST_FOR_LETTERS = 0.75;
 
 // The times of a contact for each pulse, in ms; `more` is how many pulses it sends too many.
 const DIAL_KINDS = {
@@ -48,6 +51,7 @@ class Dial {
     this.restsUntil = 0;
     this.heldUntil = 0;    // until then the wheel is held where a hand lets go of it
     this.draw(name);
+    new ResizeObserver(() => this.fit()).observe(top);
     top.addEventListener('pointerdown', (event) => this.press(event));
     top.addEventListener('pointermove', (event) => this.turn(event));
     top.addEventListener('pointerup', (event) => this.release(event));
@@ -201,6 +205,13 @@ class Dial {
     makeSvg('text', { class: 'under', y: 15 }, this.top, 'turn, let go');
     const [inner, outer] = [pointAt(STOP_ANGLE + 2, 92), pointAt(STOP_ANGLE + 2, 150)];
     makeSvg('path', { class: 'stop', d: `M${inner.x} ${inner.y}L${outer.x} ${outer.y}` }, this.top);
+  }
+
+  fit() {
+    const scale = this.top.getBoundingClientRect().width / DIAL_WIDTH;
+    if (scale === 0) return;
+    this.top.classList.toggle('small', scale < LEAST_FOR_LETTERS);
+    this.top.style.setProperty('--letters', `${LEAST_LETTERS / Math.min(scale, 1)}px`);
   }
 
   drawFigure(digit) {

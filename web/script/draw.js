@@ -27,6 +27,13 @@ function guarded(what) {
   }
 }
 
+// Hands a file to the browser, as if a link to it were followed.
+function saveFile(name, content, type) {
+  const address = URL.createObjectURL(new Blob([content], { type }));
+  make('a', { href: address, download: name }).click();
+  setTimeout(() => URL.revokeObjectURL(address), 1000);
+}
+
 // How much larger the page's letters are than on a desk, as those of a museum's screen.
 const largerBy = () => parseFloat(getComputedStyle(document.documentElement).fontSize) / 16;
 

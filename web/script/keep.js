@@ -74,13 +74,6 @@ function deckOfCalls(table, telephones) {
   return `${table.trimEnd()}\n---\nline,state,ms\n${rows.map((row) => `${row}\n`).join('')}`;
 }
 
-// Hands a file to the browser, as if a link to it were followed.
-function saveFile(name, content, type) {
-  const address = URL.createObjectURL(new Blob([content], { type }));
-  make('a', { href: address, download: name }).click();
-  setTimeout(() => URL.revokeObjectURL(address), 1000);
-}
-
 class Keepsakes {
   constructor(office) {
     this.office = office;

@@ -29,9 +29,13 @@ class Loop {
     const until = Math.floor(this.clock.now());
     while (this.coming.length && this.coming[0].at <= until) {
       const { contact, closed, at } = this.coming.shift();
-      this.giveRow(Math.max(Math.floor(at), this.toldUntil));
       const was = this.isClosed();
-      this.contacts[contact] = closed;
+      // a fault in what a row draws loses no change
+      try {
+        this.giveRow(Math.max(Math.floor(at), this.toldUntil));
+      } finally {
+        this.contacts[contact] = closed;
+      }
       if (this.isClosed() !== was) this.clock.at(this.toldUntil, () => this.listener.changed(this.toldUntil, !was));
       if (this.clock.pace !== pace) return;
     }

@@ -13,6 +13,7 @@ class Office {
     this.reader = reader;
     this.clock = new Clock();
     this.sound = new Sound();
+    this.caller = new Caller(module, this.sound);
     this.route = new RouteView($('route'), $('trunk'));
     this.table = new TableField('', reader, module.tableBytes(), (table, text) => this.useTable(table, text));
     this.second = new SecondOffice(module, reader, (marks) => this.playOnward(marks));
@@ -91,6 +92,9 @@ class Office {
     $('keys').checked = true;
     this.setPace(1);
     this.setNoise(0);
+    $('called').value = 'free';
+    $('plan').value = 'precise';
+    Object.assign(this.caller, { isCalledBusy: false, plan: 'precise' });
     this.setSound(false);
     this.isSilenced = false;
     this.setRow(false);
@@ -132,14 +136,16 @@ class Office {
       this.route.showRefused(telephone.name, why);
       const label = `${telephone.name}, refused: ${why}`;
       guarded(() => this.tape.addPicture(entry, new AttemptPicture(telephone.attempt, label).svg));
+      telephone.answer(Hears.REORDER);
       isOver();
       return;
     }
     const keyed = marks.filter((mark) => mark.kind === Kind.DIGIT).map((mark) => mark.value).join('');
     const entry = this.tape.add(text, `${telephone.name} is keyed on trunk group ${marks[0].value}`, false);
     this.route.showKeyed(telephone.name, number, this.module.codeOf(number), marks[0].value, keyed);
-    const told = (keys, heard) => {
+    const told = (keys, heard, isKeyedOn) => {
       this.tape.showHeard(entry, keys, heard);
+      if (turn === telephone.turn && isKeyedOn !== null) telephone.answer(this.caller.answer(isKeyedOn));
       this.explain.at('far');
       isOver();
     };
@@ -197,6 +203,8 @@ class Office {
     });
     $('pace').addEventListener('change', () => this.setPace(Number($('pace').value)));
     $('noise').addEventListener('change', () => this.setNoise(Number($('noise').value)));
+    $('called').addEventListener('change', () => { this.caller.isCalledBusy = $('called').value === 'busy'; });
+    $('plan').addEventListener('change', () => { this.caller.plan = $('plan').value; });
     $('example').addEventListener('click', () => this.readExample());
     $('file').addEventListener('change', () => {
       this.readFile($('file').files[0]);
@@ -311,7 +319,10 @@ class Office {
     this.moveTelephones();
   }
 
-  moveTelephones() { for (const telephone of this.telephones) guarded(() => telephone.move()); }
+  moveTelephones() {
+    for (const telephone of this.telephones) guarded(() => telephone.move());
+    guarded(() => this.caller.hear(this.chosen.hears, this.clock.pace));
+  }
 
   nextDue(now) {
     return this.coming.filter(({ at }) => at <= now).sort((one, other) => one.at - other.at)[0];
@@ -374,23 +385,21 @@ class Office {
   }
 }
 
-const bytesOf = (id) => Uint8Array.from(atob($(id).textContent), (letter) => letter.charCodeAt(0));
-
 // A browser without 64-bit memory refuses the module, and takes its copy.
 async function openModule() {
-  const wasm = bytesOf('module');
+  const wasm = await bytesOf('module');
   try {
     if (location.hash.includes('lowered')) throw new Error('the copy is asked for');
     return await Module.open(wasm);
   } catch {
-    const module = await Module.open(bytesOf('lowered'));
+    const module = await Module.open(await bytesOf('lowered'));
     $('copy').hidden = false;
     return module;
   }
 }
 
 async function openOffice() {
-  const wasm = bytesOf('reader');
+  const wasm = await bytesOf('reader');
   return new Office(await openModule(), await Reader.open(wasm), wasm);
 }
 

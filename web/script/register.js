@@ -6,6 +6,7 @@ const REGISTER_DIGITS = 10;
 const PHASES = ['on hook', 'loop closed', 'break', 'make', 'timed out', 'ended'];
 const CLOSED_PHASE = 1;
 const TIMED_OUT_PHASE = 4;
+const LISTENING_ATTEMPT = 1;
 const ATTEMPTS = ['idle', 'listening', 'deaf until you hang up'];
 
 const figureOf = (digit) => (digit === SPOILED ? '×' : String(digit));

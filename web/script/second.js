@@ -8,6 +8,7 @@ class Trunk {
   constructor(office) {
     this.office = office;
     this.register = new Incoming(office.module);
+    this.isKeyedOn = false;      // its last number went on from this office
   }
 
   // Keys that an ear heard.
@@ -15,7 +16,7 @@ class Trunk {
 
   end() { this.give(this.register.end()); }
 
-  give(outcomes) { outcomes.forEach((outcome) => this.office.give(outcome)); }
+  give(outcomes) { for (const outcome of outcomes) this.isKeyedOn = this.office.give(outcome); }
 }
 
 class SecondOffice {
@@ -45,14 +46,16 @@ class SecondOffice {
 
   trunk() { return new Trunk(this); }
 
-  // An outcome of the register gives an entry.
+  // An outcome of the register gives an entry, and this whether it is a keyed one.
   give(outcome) {
     const marks = this.module.onward(outcome, this.module.at.secondTable);
     const number = this.keyed + this.refused + 1;
     const text = this.module.entryText(0, number, marks);
-    if (isRefusal(marks[0])) this.addRefused(number, text, outcome);
-    else this.addKeyed(number, text, outcome, marks);
+    const isKeyed = !isRefusal(marks[0]);
+    if (isKeyed) this.addKeyed(number, text, outcome, marks);
+    else this.addRefused(number, text, outcome);
     this.showTotals();
+    return isKeyed;
   }
 
   addKeyed(number, text, outcome, marks) {

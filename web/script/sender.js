@@ -28,7 +28,8 @@ class Sender {
     this.draw([]);
   }
 
-  // tell: is given what the far end heard of these keys, once they have sounded.
+  // tell: is given what the far end heard of these keys, once they have sounded, and whether it keyed them on; null where
+  // they were taken before.
   send(name, marks, tell) { this.waiting.push({ name, keys: keysOf(marks), tell }); }
 
   isIdle() { return !this.playing && this.waiting.length === 0; }
@@ -115,9 +116,9 @@ class Sender {
     this.playing = null;
     this.redraw();         // the page may have another width by now
     const last = ear.end();
-    tell(keys, [...heard, ...last]);
     trunk?.take(last);
     trunk?.end();
+    tell(keys, [...heard, ...last], trunk && trunk.isKeyedOn);
   }
 
   move() {
@@ -148,7 +149,7 @@ class Sender {
   draw(keys) {
     const { clientWidth, clientHeight } = this.top;
     const larger = largerBy();
-    const [width, height] = [Math.max(280, (clientWidth || 600) / larger), (clientHeight || 180) / larger];
+    const [width, height] = [Math.max(240, (clientWidth || 600) / larger), (clientHeight || 180) / larger];
     this.top.setAttribute('viewBox', `0 0 ${width} ${height}`);
     this.top.textContent = '';
     this.top.setAttribute('aria-label', keys.length ? `Keys: ${keys.map(keyName).join(' ')}` : 'No keys are sent');

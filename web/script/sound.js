@@ -61,9 +61,18 @@ class Sound {
   // Plays samples from -1 to 1. What is returned ends them.
   play(samples, level = TONE_LEVEL) {
     if (!this.isOn || samples.length === 0) return () => {};
+    return this.start(this.bufferOf(samples), level);
+  }
+
+  // Has samples sound over and over.
+  loop(samples, level) {
+    return this.isOn ? this.start(this.bufferOf(samples), level, 0, true) : () => {};
+  }
+
+  bufferOf(samples) {
     const buffer = this.audio.createBuffer(1, samples.length, 1000 * SAMPLES_A_MS);
     buffer.copyToChannel(samples, 0);
-    return this.start(buffer, level);
+    return buffer;
   }
 
   silence() { for (const ends of this.endings) ends(); }
@@ -82,8 +91,9 @@ class Sound {
     this.start(this.clickBuffer, closed ? 0.05 : 0.09, isLate ? now : now + (CLICK_DELAY_MS - ago) / 1000);
   }
 
-  start(buffer, level, when = 0) {
+  start(buffer, level, when = 0, isLoop = false) {
     const source = this.audio.createBufferSource();
+    source.loop = isLoop;
     const gain = this.audio.createGain();
     gain.gain.value = level;
     source.buffer = buffer;

@@ -4,8 +4,10 @@
 // and after how long a whole number has its entry at the latest.
 const HANGS_MS = 450;
 const LISTENS_MS = 250;
-const SHOWN_MS = 2000;
+const SHOWN_MS = 2600;
 const WHOLE_MS = 1000;
+// How long after its keys the far end answers.
+const ANSWERS_MS = 300;
 
 class Telephone {
   constructor(line, module, clock, office) {
@@ -13,6 +15,7 @@ class Telephone {
     this.digits = [];
     this.attempt = null;
     this.outcome = '';
+    this.hears = Hears.NOTHING;
     this.runs = [];        // all makes and breaks of its line since the table is in use
     this.top = $('telephone').content.cloneNode(true).firstElementChild;
     this.find = (name) => this.top.querySelector(`.${name}`);
@@ -61,6 +64,15 @@ class Telephone {
   clear() {
     this.digits = [];
     this.outcome = '';
+    this.answered = Hears.NOTHING;
+  }
+
+  // What the far end, or a refusal, has the caller hear.
+  answer(hears) {
+    this.inTurn(ANSWERS_MS, () => {
+      this.answered = hears;
+      this.showState();
+    });
   }
 
   // ---- the hook and the dial
@@ -280,9 +292,18 @@ class Telephone {
     this.find('spoken').textContent = [...number].join(' ').replaceAll('×', 'a spoiled digit');
   }
 
+  // Dial tone ends with the first break of the first digit.
+  showHears({ phase, attempt, breaks, count }) {
+    const isAsked = attempt === LISTENING_ATTEMPT && phase === CLOSED_PHASE && breaks === 0 && count === 0;
+    this.hears = !this.isUp ? Hears.NOTHING : this.outcome ? this.answered : isAsked ? Hears.DIAL_TONE : Hears.NOTHING;
+    const shown = this.find('hears');
+    if (shown.textContent !== HEARS_WORDS[this.hears]) shown.textContent = HEARS_WORDS[this.hears];
+  }
+
   showState() {
     const state = this.module.stateOf(this.line);
     if (state.breaks > 0) this.office.reach(this.find('registering'));
+    this.showHears(state);
     const now = [state.phase, state.attempt, state.breaks, this.outcome, this.digits.length].join();
     if (now === this.shown) return;
     this.shown = now;
@@ -293,6 +314,6 @@ class Telephone {
     if (heard.textContent !== words) heard.textContent = words;
     heard.classList.toggle('refused', this.outcome === 'refused');
     this.showNumber(this.numberDialled());
-    this.register.show(this.digits, state.attempt === 1 ? state.breaks : 0);
+    this.register.show(this.digits, state.attempt === LISTENING_ATTEMPT ? state.breaks : 0);
   }
 }

@@ -3,9 +3,10 @@
 'use strict';
 const fs = require('fs');
 const path = require('path');
+const { gunzipSync } = require('zlib');
 
-const SCRIPTS = ['reader.js', 'memory.js', 'module.js', 'ear.js', 'incoming.js'];
-const NAMES = ['Module', 'Reader', 'Refused', 'Kind', 'Ear', 'heardText', 'Incoming', 'timedKeyOf'];
+const SCRIPTS = ['packed.js', 'reader.js', 'memory.js', 'module.js', 'ear.js', 'incoming.js'];
+const NAMES = ['bytesOfSigns', 'Module', 'Reader', 'Refused', 'Kind', 'Ear', 'heardText', 'Incoming', 'timedKeyOf'];
 const readScript = (name) => fs.readFileSync(path.join(__dirname, '..', 'script', name), 'utf8');
 const text = SCRIPTS.map(readScript).join('\n');
 const chain = new Function(`'use strict';\n${text}\nreturn { ${NAMES.join(', ')} };`)();
@@ -13,7 +14,7 @@ const chain = new Function(`'use strict';\n${text}\nreturn { ${NAMES.join(', ')}
 // The module of a page, which is what is tried, its copy, and the reader.
 function modulesOf(page) {
   const html = fs.readFileSync(page, 'utf8');
-  const of = (id) => Buffer.from(new RegExp(`id="${id}">([^<]*)<`).exec(html)[1], 'base64');
+  const of = (id) => gunzipSync(chain.bytesOfSigns(new RegExp(`id="${id}">([^<]*)<`).exec(html)[1]));
   return { module: of('module'), lowered: of('lowered'), reader: of('reader') };
 }
 

@@ -14,7 +14,7 @@ const { dialRows } = require('./seeds.js');
 const { tryTaken } = require('./taken.js');
 
 const [, , page, examples, mfbank, mfcheck] = process.argv;
-const MOST_BYTES = 480000;
+const MOST_BYTES = 450000;
 const MOST_NANOSECONDS = 1000;
 const read = (name) => fs.readFileSync(path.join(examples, name));
 

@@ -4,6 +4,7 @@
 'use strict';
 const fs = require('fs');
 const path = require('path');
+const { tryCaller } = require('./caller.js');
 const { CallTries } = require('./calls.js');
 const { tryChance } = require('./chance.js');
 const { is, end } = require('./checks.js');
@@ -54,6 +55,7 @@ async function tryAll(it) {
   await tryFirst(it);
   await tryAlive(it);
   await tryHeard(it);
+  await tryCaller(it);
   await tryRoutes(it);
   await tryKept(it, read, mfbank);
   await tryShown(it);

@@ -53,7 +53,7 @@ const COUNT_STOPS = `
   window.playing = new Set();
   const { start, stop } = AudioBufferSourceNode.prototype;
   AudioBufferSourceNode.prototype.start = function (...words) {
-    if (this.buffer.length > 1000) { playing.add(this); this.addEventListener('ended', () => playing.delete(this)); }
+    if (this.buffer.length > 1000 && !this.loop) { playing.add(this); this.addEventListener('ended', () => playing.delete(this)); }
     return start.apply(this, words);
   };
   AudioBufferSourceNode.prototype.stop = function (...words) { playing.delete(this); return stop.apply(this, words); };`;

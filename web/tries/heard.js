@@ -37,13 +37,14 @@ async function tryImages(it) {
   is(`and the tones differ by ${twist.toFixed(1)} dB, at most 1.5`, twist <= 1.5, true);
 }
 
-// Keeps when each sound is to begin, how long it is, and each change of a level.
+// Keeps when each sound but a caller's tone is to begin, how long it is, and each change of a level.
 const KEEP = `
   window.begun = [];
   window.ramps = [];
   const { start } = AudioBufferSourceNode.prototype;
   AudioBufferSourceNode.prototype.start = function (when, ...words) {
-    begun.push({ at: Math.max(when ?? 0, this.context.currentTime), length: this.buffer.length });
+    const at = Math.max(when ?? 0, this.context.currentTime);
+    if (!this.loop) begun.push({ at, length: this.buffer.length });
     return start.call(this, when, ...words);
   };
   const { linearRampToValueAtTime: ramp } = AudioParam.prototype;

@@ -67,6 +67,14 @@ async function tryOpening(it) {
   is('the page says that it is a copy', await it.run('document.getElementById("copy").hidden'), false);
 }
 
+// The letters that are smaller than 12 px as they are seen, pictures too, each with its text.
+const SMALL_LETTERS = `[...document.querySelectorAll('body *')].filter((it) => {
+  const isText = [...it.childNodes].some((node) => node.nodeType === 3 && node.textContent.trim());
+  if (!isText || !it.getClientRects().length || getComputedStyle(it).visibility === 'hidden') return false;
+  const scale = it.ownerSVGElement ? Math.hypot(it.getScreenCTM().a, it.getScreenCTM().b) : 1;
+  return parseFloat(getComputedStyle(it).fontSize) * scale < 11.95 && !it.closest('.spoken');
+}).map((it) => it.textContent.slice(0, 20))`;
+
 async function tryPhone(it) {
   await it.look({ width: 390, height: 844 });
   await it.send('Emulation.setTouchEmulationEnabled', { enabled: true });
@@ -82,6 +90,7 @@ async function tryPhone(it) {
       if (isRow) await it.click('#row');
       const fits = await it.run('document.documentElement.scrollWidth <= innerWidth');
       is(`nothing is wider than ${width} pixels`, fits, true);
+      is('no letter is smaller than 12', await it.run(SMALL_LETTERS), []);
     }
     await it.click('#row');
   }

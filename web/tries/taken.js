@@ -107,6 +107,7 @@ const REFUSALS = [
   [(chain) => chain.tone(700, 900, 80001), NO_TONE],
   [(chain) => chain.page(), NO_DECK],
   [(chain) => chain.page(new ArrayBuffer(5)), NO_DECK],
+  [(chain) => chain.told(), NO_DECK],
   [(chain, { Ear }) => new Ear(chain).hear([1, 2, 3]), 'the samples are no Int16Array or Float32Array'],
   [(chain, { Ear }) => new Ear({}), 'it is no chain'],
   [(chain, { Register }) => new Register(), 'it is no chain'],
@@ -132,6 +133,9 @@ function tryRefusals(chain, { Refused, ...classes }) {
   const { entry } = [...[3, 4, 5, 6, 7, 8].flatMap(digit)].map((row) => chain.take(7, ...row)).find((row) => row.entry);
   const keys = 'KP:1100+1700 5:900+1300 6:1100+1300 5:900+1300 6:1100+1300 7:700+1500 8:900+1500 ST:1500+1700';
   is('and the line goes on', entry, `0007 1 KEYED 0017 ${keys}`);
+  const noted = `${TABLE}---\nline,state,ms\n7,M,600\n8,B,86400000\n`;
+  is('notes of a deck that is accepted', chain.told(noted), [
+    'deck:12:1: no make of this line is heard, so no number is dialled on it: 8,B,86400000']);
   const { code, marks } = chain.route('411');
   is('411 by no line', [code, marks.map(({ kind, value }) => value ?? kind).join(' ')], ['411', '3 KP 4 1 1 ST']);
 }

@@ -8,7 +8,7 @@ async function callsOf(table: string): Promise<string[]> {
   const spoiled = signals.filter((signal) => signal.kind === 'digit' && signal.digit === null);
   const keys: Key[] = new Ear(chain).hear(new Float32Array(80));
   const sent = keys.flatMap((key) => new Register(chain).take(key));
-  const code: string = chain.route('411').code;
+  const code: string = chain.route('411').code + chain.told(table).join() + String(keys[0].end - keys[0].begin);
   return [entry ?? code, ...digits.map(String), ...sent.map((one) => one.entry), String(spoiled.length)];
 }
 

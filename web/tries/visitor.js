@@ -3,7 +3,7 @@
 const path = require('path');
 const { Browser, sleep } = require('./browser.js');
 
-// Keeps the rows and the sounds that the page gives.
+// Keeps the rows that the page gives, and its sounds without the tones that a caller hears over and over.
 const LISTEN = `(() => {
   window.rows = [];
   window.sounds = [];
@@ -14,7 +14,7 @@ const LISTEN = `(() => {
   };
   const { start } = AudioBufferSourceNode.prototype;
   AudioBufferSourceNode.prototype.start = function (...words) {
-    sounds.push([...this.buffer.getChannelData(0)]);
+    if (!this.loop) sounds.push([...this.buffer.getChannelData(0)]);
     return start.apply(this, words);
   };
 })()`;
