@@ -2,9 +2,11 @@
 use Rattle.std.specs.Prelude.{ℕ, ◌≡◌, List, Option, Some, None, String, codes, drop, take}
 use Rattle.std.specs.declared.alloc.Global.{Global}
 use Rattle.clap.specs.Walk.{Text}
+use Rattle.xb_command.specs.Programs.{Streams}
 use Rattle.xb_command.specs.Works.{Rules}
+use Rattle.xb_command.specs.declared.table.Call.{Call}
 use Rattle.xb_command.specs.declared.table.Program.{Program}
-use Rattle.xb_process.specs.Processes.{Serves}
+use Rattle.xb_process.specs.Processes.{EndsWith, IsCallBy, Serves}
 use Rattle.xb_office.specs.Program.{by_bank}
 use Rattle.xb_bench.specs.Program.{by_bench}
 use Rattle.xb_check.specs.Program.{by_check}
@@ -12,6 +14,8 @@ use Rattle.xb_dial.specs.Program.{by_dial}
 use Rattle.xb_hear.specs.Program.{by_hear}
 use Rattle.xb_live.specs.Program.{by_live}
 use Rattle.xb_loop.specs.Program.{by_loop}
+use Rattle.xb_parts.specs.Program.{AttendsOffice}
+use Rattle.xb_parts.specs.SplitProgram.{Folders}
 use Rattle.xb_route.specs.Program.{by_route}
 use Rattle.xb_rx.specs.Program.{by_rx}
 use Rattle.xb_tandem.specs.Program.{by_tandem}
@@ -25,7 +29,38 @@ use Rattle.mf.specs.declared.choice.Choice.TheVariants as choice
 abbrev pub ServesAs : {Q : Type 0} → Rules Q → Text → List (String Global) → ℕ → Type 0
 ServesAs rules name words code = (program : Program) × (program.name.now ≡ name) × Serves rules program words code
 
--- as this program does; of `mfoffice` no more is said than of its own process
+-- folders of which nothing is known
+abbrev pub unknown_folders : Folders
+unknown_folders = record {
+  has_any = λ folder. None;
+  fresh = None;
+  named = λ folder part. None;
+  before = λ folder. None;
+  after = λ folder. None;
+}
+
+-- `mfoffice` did with a call what it does by the tables of its two steps, with some streams, and folders and files that
+-- nobody knows
+pub record AttendsParts (call : Call) (status : ℕ) : Type 0 where
+  pub split : Program
+  pub join : Program
+  pub is_split : split.name.now ≡ codes "mfoffice split"
+  pub is_join : join.name.now ≡ codes "mfoffice join"
+  pub old : Streams
+  pub new : Streams
+  pub attends : AttendsOffice call split join unknown_folders (λ name. None) (λ name. None) old new status
+
+-- a process ended as it did
+pub record ServesParts (words : List (String Global)) (code : ℕ) : Type 0 where
+  pub program : Program
+  pub name : program.name.now ≡ codes "mfoffice"
+  pub call : Call
+  pub called : IsCallBy program words call
+  pub status : ℕ
+  pub attends : AttendsParts call status
+  pub ends : EndsWith status code
+
+-- as this program does
 abbrev pub ServesBy : Choice → List (String Global) → ℕ → Type 0
 ServesBy choice.Bank words code = ServesAs by_bank (codes "mfbank") words code
 ServesBy choice.Bench words code = ServesAs by_bench (codes "mfbench") words code
@@ -34,7 +69,7 @@ ServesBy choice.Dial words code = ServesAs by_dial (codes "mfdial") words code
 ServesBy choice.Hear words code = ServesAs (by_hear by_loop) (codes "mfhear") words code
 ServesBy choice.Live words code = ServesAs by_live (codes "mflive") words code
 ServesBy choice.Loop words code = ServesAs by_loop (codes "mfloop") words code
-ServesBy choice.Office words code = Unit {0}
+ServesBy choice.Office words code = ServesParts words code
 ServesBy choice.Route words code = ServesAs by_route (codes "mfroute") words code
 ServesBy choice.Rx words code = ServesAs by_rx (codes "mfrx") words code
 ServesBy choice.Tandem words code = ServesAs by_tandem (codes "mftandem") words code

@@ -5,7 +5,7 @@ ghost use Rattle.clap.specs.Faults.{is_simple_and_free};
 ghost use Rattle.xb_command.specs.Tables.{command_by};
 ghost use Rattle.xb_command.specs.declared.telling.TheConstants.{FAULT};
 ghost use Rattle.xb_process.specs.Processes.{Attends, Serves};
-ghost use Rattle.mf.specs.Served.{ServesBy, ServesLine};
+ghost use Rattle.mf.specs.Served.{ServesBy, ServesLine, ServesParts};
 
 use crate::choice::{Choice, after_first, drop_first, first_program};
 use crate::none::{Nothing, PROGRAM};
@@ -53,7 +53,9 @@ fn serve_by_buffer<'a, Q: Work<'a>>(
 }
 
 // Serves words by `mfoffice`, which makes folders too.
-fn serve_parts(rt: &HostRuntime, words: Vec<String>) -> ExitCode {
+fn serve_parts(rt: &HostRuntime, words: Vec<String>) -> ExitCode
+    ensures { ServesParts words.items (exit_status result) }
+{
     let (pipe, errors) = (Pipe::default(), rt.stderr());
     let (mut input, mut out) = (rt.stdin(), pipe.output(io::writer(rt)));
     let mut err = pipe.errors(io::writer(&errors));

@@ -22,6 +22,9 @@ returns-in-Live c = rw c.in-Live.is (_, refl, c.serve-in-Live.ensures.served)
 pub returns-in-Loop : goal.returns-in-Loop
 returns-in-Loop c = rw c.in-Loop.is (_, refl, c.serve-in-Loop.ensures.served)
 
+pub returns-in-Office : goal.returns-in-Office
+returns-in-Office c = rw c.in-Office.is c.serve_parts.ensures
+
 pub returns-in-Route : goal.returns-in-Route
 returns-in-Route c = rw c.in-Route.is (_, refl, c.serve-in-Route.ensures.served)
 
