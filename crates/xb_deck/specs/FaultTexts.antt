@@ -11,7 +11,8 @@ use Rattle.xb_deck.specs.declared.fault.DeckFault.TheVariants as deck
 abbrev pub table_text : TableFault → List ℕ
 table_text table.Read = codes "the deck could not be read"
 table_text (table.TooLong most) = codes "the route table is longer than " ++ decimal most ++ codes " bytes"
-table_text table.NoCut = codes "the deck has no line ---"
+table_text table.NoCut =
+    codes "the deck has no line --- after its route table; mfloop --table makes a deck of a recording"
 table_text table.NoMemory = codes "out of memory"
 
 -- of a deck

@@ -35,7 +35,9 @@ impl fmt::Display for TableFault {
         match self {
             TableFault::Read => f.write_str("the deck could not be read"),
             TableFault::TooLong(most) => write!(f, "the route table is longer than {most} bytes"),
-            TableFault::NoCut => f.write_str("the deck has no line ---"),
+            TableFault::NoCut => f.write_str(
+                "the deck has no line --- after its route table; mfloop --table makes a deck of a recording",
+            ),
             TableFault::NoMemory => f.write_str("out of memory"),
         }
     }

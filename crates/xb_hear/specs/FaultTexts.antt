@@ -8,7 +8,7 @@ use Rattle.xb_hear.specs.declared.fault.HearFault.TheVariants as hear
 -- of a report that is not written; a deck without its line --- may be a recording
 abbrev pub hear_text : HearFault → List ℕ
 hear_text (hear.Deck deck.NoCut) =
-    deck_text deck.NoCut ++ codes "; where it is a recording, say its wires, as --wire 7=D0"
+    codes "the deck has no line ---; where it is a recording, say its wires, as --wire 7=D0"
 hear_text (hear.Deck fault) = deck_text fault
 hear_text (hear.NoAttempts line) = codes "line " ++ decimal line ++ codes " has no attempt"
 hear_text (hear.NoAttempt number) = codes "the line has no attempt " ++ decimal number

@@ -88,7 +88,7 @@ const CASES: &[Case] = &[
         &[b"line,state,ms\n"],
         1,
         &[],
-        b"mflive: the deck has no line ---\n",
+        b"mflive: the deck has no line --- after its route table; mfloop --table makes a deck of a recording\n",
     ),
     (
         &[],
@@ -132,7 +132,7 @@ const CASES: &[Case] = &[
         &[b"line,state,ms\n"],
         1,
         &[],
-        b"mflive: the deck has no line ---\n",
+        b"mflive: the deck has no line --- after its route table; mfloop --table makes a deck of a recording\n",
     ),
 ];
 

@@ -15,7 +15,7 @@ const WORDS: &[(LiveFault, &str)] = &[
     ),
     (
         LiveFault::Deck(TableFault::NoCut),
-        "the deck has no line ---",
+        "the deck has no line --- after its route table; mfloop --table makes a deck of a recording",
     ),
     (
         LiveFault::Deck(TableFault::TooLong(16_777_216)),

@@ -20,7 +20,10 @@ const DECKS: &[(&[Part], &str)] = &[
         &[Part::Times(16_777_217, b" ")],
         "mfbank: the deck is longer than 16777216 bytes\n",
     ),
-    (&[Part::Table], "mfbank: the deck has no line ---\n"),
+    (
+        &[Part::Table],
+        "mfbank: the deck has no line --- after its route table; mfloop --table makes a deck of a recording\n",
+    ),
     (
         &[Part::Bytes(b"code = \n"), HEADER],
         "mfbank: route table: not TOML\n",

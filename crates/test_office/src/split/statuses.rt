@@ -233,7 +233,7 @@ const FAULTS: &[(&[&str], u8, &[u8])] = &[
     (
         &["split", "no cut", "parts"],
         1,
-        b"mfoffice split: the deck has no line ---\n",
+        b"mfoffice split: the deck has no line --- after its route table; mfloop --table makes a deck of a recording\n",
     ),
     (&["split", "no trunk", "parts"], 1, REFUSED_TABLE),
     (
