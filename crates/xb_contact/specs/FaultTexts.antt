@@ -34,6 +34,9 @@ refusal_text refusal.MoreFollows =
 refusal_text (refusal.Quiet threshold) =
     codes "the sound is too quiet for the threshold: give --threshold " ++ decimal threshold
 refusal_text refusal.Silent = codes "the sound is too quiet for any threshold: record it louder"
+refusal_text (refusal.Doubtful sample threshold) =
+    codes "from sample " ++ decimal sample ++ codes " on it may be read otherwise: try --threshold "
+    ++ decimal threshold ++ codes ", or record the contact alone"
 refusal_text refusal.Blank = codes "it is empty"
 refusal_text refusal.Deck = codes "this is a deck or a part of one, and no recording: mfhear takes one, without --wire"
 refusal_text refusal.Form =

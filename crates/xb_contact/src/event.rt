@@ -72,6 +72,8 @@ pub enum Refusal {
     Quiet(u8),
     /// Sound whose greatest sample is too low for the least threshold.
     Silent,
+    /// Sound of which a channel may be read otherwise from this sample on; the threshold that its greatest sample bears.
+    Doubtful(u64, u8),
     /// A recording in which nothing stands.
     Blank,
     /// A deck, or a route table or rows alone.
@@ -139,6 +141,10 @@ impl fmt::Display for Refusal {
             ),
             Refusal::Silent => f.write_str(
                 "the sound is too quiet for any threshold: record it louder",
+            ),
+            Refusal::Doubtful(sample, threshold) => write!(
+                f,
+                "from sample {sample} on it may be read otherwise: try --threshold {threshold}, or record the contact alone"
             ),
             Refusal::Blank => f.write_str("it is empty"),
             Refusal::Deck => f.write_str(

@@ -63,7 +63,7 @@ abbrev pub form_named : Option Text → Option (Option Format)
 form_named None = Some None
 form_named (Some name) = option_map (λ format. Some format) (format_of name)
 
--- edges are lost of gpiomon alone: that is the form then, and no other may be named
+-- edges are lost of gpiomon and of sound: the first is the form then, unless one of sound is named, and no other may be
 abbrev pub form_suited : Bool → Option Format → Option (Option Format)
 form_suited false named = Some named
 form_suited true None = Some (Some formats.Gpiomon)
@@ -74,8 +74,8 @@ form_suited true (Some formats.Saleae) = None
 form_suited true (Some formats.Edges) = None
 form_suited true (Some formats.Bits) = None
 form_suited true (Some formats.WideBits) = None
-form_suited true (Some formats.Sixteen) = None
-form_suited true (Some formats.Wav) = None
+form_suited true (Some formats.Sixteen) = Some (Some formats.Sixteen)
+form_suited true (Some formats.Wav) = Some (Some formats.Wav)
 
 abbrev pub form_asked : Bool → Option Text → Option (Option Format)
 form_asked lossy name = option_and_then (form_suited lossy) (form_named name)

@@ -226,7 +226,8 @@ fn no_form<'a>(value: &'a str, reason: &'static str) -> Misfit<'a> {
     }
 }
 
-// The form of a recording whose edges may be lost, which is that of gpiomon; no other one may be named.
+// The form of a recording whose edges may be lost, which is that of gpiomon unless one of sound is named; no other one may
+// be.
 fn lossy_format<'a>(
     named: Option<Format>,
     name: Option<&'a str>,
@@ -235,8 +236,12 @@ fn lossy_format<'a>(
     ensures refused { IfErr result (λ _. form_suited true named ≡ None) }
 {
     match named {
-        None | Some(Format::Gpiomon) => Ok(Some(Format::Gpiomon)),
-        Some(_) => Err(no_form(name.unwrap_or(""), "with --lossy the form is gpiomon")),
+        None => Ok(Some(Format::Gpiomon)),
+        Some(Format::Gpiomon) | Some(Format::Sixteen) | Some(Format::Wav) => Ok(named),
+        Some(_) => Err(no_form(
+            name.unwrap_or(""),
+            "with --lossy the form is gpiomon, s16 or wav",
+        )),
     }
 }
 
@@ -292,8 +297,8 @@ fn any_rings(lines: &[AskedLine]) -> bool
 }
 
 /// What words ask for, where this holds for all lines; notes are asked for where edges may be lost, or a line rings, too.
-/// Or why they ask for nothing: there is no such form or threshold, or another form than that of gpiomon where edges may
-/// be lost; or a word is no wire, names a line again, or has a word after a comma that is none, or is said twice, or rings
+/// Or why they ask for nothing: there is no such form or threshold, or another form than that of gpiomon or of sound where
+/// edges may be lost; or a word is no wire, names a line again, or has a word after a comma that is none, or is said twice, or rings
 /// where a make of under 68 ms seizes.
 pub fn request_of<'a, G: Drop>(
     alloc: Global,

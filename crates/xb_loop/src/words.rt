@@ -77,7 +77,8 @@ goes away.",
         },
         Word {
             name: "lossy",
-            help: "reads on where gpiomon has lost an edge, and tells how many edges each line has lost",
+            help: "reads on where gpiomon has lost an edge, and tells how many edges each line has lost; with --format wav
+        or s16 sound that may be read otherwise is taken, too",
             ..FLAG
         },
     ],

@@ -131,7 +131,7 @@ keeps_sound reader sound after bytes is faults text refusal k =
 -- of sound that has begun
 pub sound_is_refused :
     (how : Coding) (channels : ℕ) (rate size : Option ℕ) (wanted : Wanted) (source : Source) (said : List Event)
-    → IsBegunSound how channels rate size (high_of wanted.threshold) (names_in wanted) source said
+    → IsBegunSound how channels wanted.lossy rate size (high_of wanted.threshold) (names_in wanted) source said
     → (lines : List (List ℕ)) (text : List ℕ) (refusal : Refusal) → SourceRefused wanted source lines text refusal
     → SoundRefused how channels rate size wanted text refusal
 sound_is_refused how channels rate size wanted (sources.Sound sound) said h lines text refusal k =

@@ -122,27 +122,27 @@ bits_begin width wanted (sources.Sound sound) said h text later k = elim h [ ]
 -- what sound comes to that has begun
 pub sound_whole :
     (how : Coding) (channels : ℕ) (rate size : Option ℕ) (wanted : Wanted) (sound : Sound) (said : List Event)
-    → IsBegunSound how channels rate size (high_of wanted.threshold) (names_in wanted) (sources.Sound sound) said
+    → IsBegunSound how channels wanted.lossy rate size (high_of wanted.threshold) (names_in wanted) (sources.Sound sound) said
     → (text : List ℕ)
     → sound_comes_to how channels rate size wanted text
     ≡ unless (sound_fault sound text) (said ++ samples_events sound_reading (sound_state sound) (samples_left sound text))
-sound_whole how channels rate size wanted sound said h text = at (wires_of channels (names_in wanted)) refl h.0.0 h.1
+sound_whole how channels rate size wanted sound said h text = at (wires_of wanted.lossy rate channels (names_in wanted)) refl h.0.0 h.1
   where
     at :
-        (found : Result (List Channel) Refusal) → wires_of channels (names_in wanted) ≡ found
+        (found : Result (List Channel) Refusal) → wires_of wanted.lossy rate channels (names_in wanted) ≡ found
         → result_map (begun_sound channels (high_of wanted.threshold)) found ≡ Ok (sound_state sound)
         → AddsAll (result_and_then (sound_begins rate) found) [] said
         → sound_comes_to how channels rate size wanted text
         ≡ unless (sound_fault sound text) (said ++ samples_events sound_reading (sound_state sound) (samples_left sound text))
     at (Err refusal) e f g = absurd (err_is f)
     at (Ok wires) e f g =
-        new_sound_says how channels (high_of wanted.threshold) (names_in wanted) rate size wires sound said text e
+        new_sound_says how channels (high_of wanted.threshold) (names_in wanted) wanted.lossy rate size wires sound said text e
         (all-added (sound_begins rate wires) said g) (ok_is f) h.0.1 h.0.2 h.0.3 h.0.4
 
 -- the beginning of sound
 sound_begin :
     (how : Coding) (channels : ℕ) (rate size : Option ℕ) (wanted : Wanted) (source : Source) (said : List Event)
-    → IsBegunSound how channels rate size (high_of wanted.threshold) (names_in wanted) source said
+    → IsBegunSound how channels wanted.lossy rate size (high_of wanted.threshold) (names_in wanted) source said
     → (text : List ℕ) (later : List Event) → BytesSay wanted source text later
     → SoundSaid how channels rate size wanted text (said ++ later)
 sound_begin how channels rate size wanted (sources.Sound sound) said h text later k =
@@ -195,7 +195,7 @@ wav_begin wanted (sources.Sound sound) said h text later k = elim h [ ]
 -- the first samples of a WAV, after what is said before them
 pub samples_begin :
     (format : WavFormat) (wanted : Wanted) (sound now : Sound) (bytes : List ℕ) (before said all : List Event)
-    → IsBegunSound format.coding format.channels (Some format.rate) format.length (high_of wanted.threshold) (names_in wanted)
+    → IsBegunSound format.coding format.channels wanted.lossy (Some format.rate) format.length (high_of wanted.threshold) (names_in wanted)
     (sources.Sound sound) before
     → all ≡ before ++ said
     → ((text : List ℕ) (later : List Event) → SoundSays now text later → SoundSays sound (bytes ++ text) (said ++ later))

@@ -66,7 +66,7 @@ names_in wanted = map (λ wire. wire.now) wanted.wires.items
 -- known
 abbrev pub sound_comes_to : Coding → ℕ → Option ℕ → Option ℕ → Wanted → List ℕ → Result (List Event) Refusal
 sound_comes_to how channels rate length wanted bytes =
-    sound_says how channels (high_of wanted.threshold) (names_in wanted) rate length bytes
+    sound_says how channels (high_of wanted.threshold) (names_in wanted) wanted.lossy rate length bytes
 
 -- it says these events, or is refused for this reason
 abbrev pub SoundSaid : Coding → ℕ → Option ℕ → Option ℕ → Wanted → List ℕ → List Event → Type 0
@@ -152,15 +152,15 @@ IsBegunBits width names rate (sources.WavHead head) said = ⊥
 IsBegunBits width names rate (sources.Sound sound) said = ⊥
 
 -- and of sound of so many channels and samples a second, and of so many bytes, where that is known
-abbrev pub IsBegunSound : Coding → ℕ → Option ℕ → Option ℕ → ℤ → List (List ℕ) → Source → List Event → Type 0
-IsBegunSound how channels rate length high names (sources.Sound sound) said =
-    IsNewSound how channels high names length sound
-    × AddsAll (result_and_then (sound_begins rate) (wires_of channels names)) [] said
-IsBegunSound how channels rate length high names (sources.Vcd vcd) said = ⊥
-IsBegunSound how channels rate length high names (sources.Columns table) said = ⊥
-IsBegunSound how channels rate length high names (sources.Gpiomon gpiomon) said = ⊥
-IsBegunSound how channels rate length high names (sources.Bits bits) said = ⊥
-IsBegunSound how channels rate length high names (sources.WavHead head) said = ⊥
+abbrev pub IsBegunSound : Coding → ℕ → Bool → Option ℕ → Option ℕ → ℤ → List (List ℕ) → Source → List Event → Type 0
+IsBegunSound how channels lossy rate length high names (sources.Sound sound) said =
+    IsNewSound how channels lossy rate high names length sound
+    × AddsAll (result_and_then (sound_begins rate) (wires_of lossy rate channels names)) [] said
+IsBegunSound how channels lossy rate length high names (sources.Vcd vcd) said = ⊥
+IsBegunSound how channels lossy rate length high names (sources.Columns table) said = ⊥
+IsBegunSound how channels lossy rate length high names (sources.Gpiomon gpiomon) said = ⊥
+IsBegunSound how channels lossy rate length high names (sources.Bits bits) said = ⊥
+IsBegunSound how channels lossy rate length high names (sources.WavHead head) said = ⊥
 
 -- and of a WAV, of which nothing was read
 abbrev pub IsBegunWav : Source → List Event → Type 0
@@ -181,7 +181,7 @@ IsOfFormat formats.Gpiomon wanted source said = IsBegunGpiomon wanted.lossy (nam
 IsOfFormat formats.Bits wanted source said = IsBegunBits widths.Eight (names_in wanted) wanted.rate source said
 IsOfFormat formats.WideBits wanted source said = IsBegunBits widths.Sixteen (names_in wanted) wanted.rate source said
 IsOfFormat formats.Sixteen wanted source said =
-    IsBegunSound coding.Signed16 1 wanted.rate None (high_of wanted.threshold) (names_in wanted) source said
+    IsBegunSound coding.Signed16 1 wanted.lossy wanted.rate None (high_of wanted.threshold) (names_in wanted) source said
 IsOfFormat formats.Wav wanted source said = IsBegunWav source said
 
 -- what has come of a line that has not ended, and whether it is the first

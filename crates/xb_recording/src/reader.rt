@@ -67,7 +67,17 @@ fn source_of<'a>(
         Format::Wav => Source::WavHead(WavHead::new()),
         Format::Sixteen => {
             let (how, threshold) = (Coding::Signed16, wanted.threshold);
-            Source::Sound(Sound::new(alloc, names, how, 1, rate, threshold, None, events)?)
+            Source::Sound(Sound::new(
+                alloc,
+                names,
+                how,
+                1,
+                rate,
+                threshold,
+                wanted.lossy,
+                None,
+                events,
+            )?)
         }
     })
 }
@@ -256,6 +266,7 @@ impl<'a> Reader<'a> {
             channels,
             Some(u64::from(rate)),
             threshold,
+            self.wanted.lossy,
             length,
             events,
         )?;

@@ -11,6 +11,6 @@ pub struct Wanted<'a> {
     pub rate: Option<u64>,
     /// How far a sample of sound has to be from 0.
     pub threshold: Threshold,
-    /// Whether edges of gpiomon may be lost.
+    /// Whether edges of gpiomon may be lost, and sound may be doubtful.
     pub lossy: bool,
 }

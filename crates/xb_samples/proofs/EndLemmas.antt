@@ -39,14 +39,14 @@ sound_faults old new bytes own is state begun left how tails text =
 
 -- all of a sound that has begun
 pub new_sound_says :
-    (how : Coding) (channels : ℕ) (high : ℤ) (names : List (List ℕ)) (rate size : Option ℕ) (wires : List Channel)
+    (how : Coding) (channels : ℕ) (high : ℤ) (names : List (List ℕ)) (lossy : Bool) (rate size : Option ℕ) (wires : List Channel)
     (sound : Sound) (said : List Event) (bytes : List ℕ)
-    → wires_of channels names ≡ Ok wires → sound_begins rate wires ≡ Ok said
+    → wires_of lossy rate channels names ≡ Ok wires → sound_begins rate wires ≡ Ok said
     → begun_sound channels high wires ≡ sound_state sound → sound.begun.items ≡ [] → sound.left ≡ size → sound.coding ≡ how
     → IsNewTail size sound.tail
-    → sound_says how channels high names rate size bytes
+    → sound_says how channels high names lossy rate size bytes
     ≡ unless (sound_fault sound bytes) (said ++ samples_events sound_reading (sound_state sound) (samples_left sound bytes))
-new_sound_says how channels high names rate size wires sound said bytes is begins state low left same tail =
+new_sound_says how channels high names lossy rate size wires sound said bytes is begins state low left same tail =
     let first : List ℤ = samples_of how (own_bytes size bytes) in
     let own : samples_left sound bytes ≡ first =
     ap (λ (l : List ℕ). samples_after sound.coding l (own_bytes sound.left bytes)) low

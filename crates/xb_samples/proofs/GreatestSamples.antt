@@ -6,7 +6,7 @@ use Rattle.std.specs.Prelude.{◌==◌, ◌&&◌, ◌||◌, max, unsigned_abs}
 use Rattle.xb_samples.specs.declared.sound.Channel.{Channel}
 use Rattle.xb_samples.specs.Greatest.{MeasuresTheGreatest, greatest_of, samples_of_wires}
 use Rattle.xb_samples.specs.Pieces.{after_piece}
-use Rattle.xb_samples.specs.Sounds.{SoundState, begun_sound, greatest_after, heard_state, heard_by, is_channel, sound_reading, wire_after}
+use Rattle.xb_samples.specs.Sounds.{SoundState, begun_sound, doubt_after, greatest_after, heard_state, heard_by, is_channel, level_in, sound_reading, wire_after}
 
 -- a wire stays the channel that it is
 same-number :
@@ -15,7 +15,11 @@ same-number channel high sample wire = at (wire.number == channel)
   where
     at :
         (own : Bool)
-        → (cond own (record wire { heard = heard_by high wire.heard sample; greatest = max wire.greatest (unsigned_abs sample) }) wire).number
+        → (cond own (record wire {
+          heard = heard_by high wire.heard sample;
+          doubt = doubt_after high (level_in wire.heard) (level_in (heard_by high wire.heard sample)) sample wire.doubt;
+          greatest = max wire.greatest (unsigned_abs sample);
+        }) wire).number
         ≡ wire.number
     at true = refl
     at false = refl

@@ -11,3 +11,4 @@ pub mod FaultLemmas
 pub mod Spikes
 pub mod TurnLemmas
 pub mod ToldTurns
+pub mod Doubts

@@ -3,7 +3,7 @@ use Rattle.std.proofs.Common.{◌≡◌, ℕ, ◌+◌, ◌<◌, ◌≤◌, List,
 use Rattle.std.proofs.lemmas.List.{at_drop_all, at_drop_more}
 use Rattle.std.specs.Borrow.{Bor}
 use Rattle.std.specs.Option.{ok_or}
-use Rattle.std.specs.Prelude.{Err, None, Ok, Option, Result, Some}
+use Rattle.std.specs.Prelude.{Bool, Err, None, Ok, Option, Result, Some}
 use Rattle.xb_contact.specs.declared.event.Refusal.{Refusal}
 use Rattle.xb_contact.specs.declared.event.Refusal.TheVariants.{NoWire}
 use Rattle.xb_contact.specs.Steps.{result_and_then, result_map}
@@ -67,34 +67,34 @@ masks_refused width names i none masks all h is so_far =
 
 -- the wires that are channels
 pub wires_more :
-    (channels : ℕ) (names : List (Bor (List ℕ))) (i : ℕ) (none : Bor (List ℕ)) (before now : List Channel) (number : ℕ)
+    (lossy : Bool) (rate : Option ℕ) (channels : ℕ) (names : List (Bor (List ℕ))) (i : ℕ) (none : Bor (List ℕ)) (before now : List Channel) (number : ℕ)
     (all : Result (List Channel) Refusal)
     → i < length names → Some number ≡ channel_of channels (get_or names i none).now
-    → now ≡ before ++ new_wire number ∷ []
-    → result_map (λ later. before ++ later) (wires_from i channels (texts (drop i names))) ≡ all
-    → result_map (λ later. now ++ later) (wires_from (i + 1) channels (texts (drop (i + 1) names))) ≡ all
+    → now ≡ before ++ new_wire lossy rate number ∷ []
+    → result_map (λ later. before ++ later) (wires_from lossy rate i channels (texts (drop i names))) ≡ all
+    → result_map (λ later. now ++ later) (wires_from lossy rate (i + 1) channels (texts (drop (i + 1) names))) ≡ all
 unfolding named
-wires_more channels names i none before now number all h is e so_far =
-    named-more i new_wire before now number (wires_from (i + 1) channels (texts (drop (i + 1) names)))
+wires_more lossy rate channels names i none before now number all h is e so_far =
+    named-more i (new_wire lossy rate) before now number (wires_from lossy rate (i + 1) channels (texts (drop (i + 1) names)))
     (channel_of channels (get_or names i none).now) is e
-    ∙ sym (at_drop_more (λ more. result_map (λ later. before ++ later) (wires_from i channels (texts more))) names i none h)
+    ∙ sym (at_drop_more (λ more. result_map (λ later. before ++ later) (wires_from lossy rate i channels (texts more))) names i none h)
     ∙ so_far
 
 pub wires_whole :
-    (channels : ℕ) (names : List (Bor (List ℕ))) (i : ℕ) (wires : List Channel) (all : Result (List Channel) Refusal)
+    (lossy : Bool) (rate : Option ℕ) (channels : ℕ) (names : List (Bor (List ℕ))) (i : ℕ) (wires : List Channel) (all : Result (List Channel) Refusal)
     → length names ≤ i
-    → result_map (λ later. wires ++ later) (wires_from i channels (texts (drop i names))) ≡ all → all ≡ Ok wires
-wires_whole channels names i wires all h so_far =
-    sym so_far ∙ at_drop_all (λ more. result_map (λ later. wires ++ later) (wires_from i channels (texts more))) names i h
+    → result_map (λ later. wires ++ later) (wires_from lossy rate i channels (texts (drop i names))) ≡ all → all ≡ Ok wires
+wires_whole lossy rate channels names i wires all h so_far =
+    sym so_far ∙ at_drop_all (λ more. result_map (λ later. wires ++ later) (wires_from lossy rate i channels (texts more))) names i h
     ∙ ap Ok (append-nil wires)
 
 pub wires_refused :
-    (channels : ℕ) (names : List (Bor (List ℕ))) (i : ℕ) (none : Bor (List ℕ)) (wires : List Channel)
+    (lossy : Bool) (rate : Option ℕ) (channels : ℕ) (names : List (Bor (List ℕ))) (i : ℕ) (none : Bor (List ℕ)) (wires : List Channel)
     (all : Result (List Channel) Refusal)
     → i < length names → None ≡ channel_of channels (get_or names i none).now
-    → result_map (λ later. wires ++ later) (wires_from i channels (texts (drop i names))) ≡ all → all ≡ Err (NoWire i)
+    → result_map (λ later. wires ++ later) (wires_from lossy rate i channels (texts (drop i names))) ≡ all → all ≡ Err (NoWire i)
 unfolding named
-wires_refused channels names i none wires all h is so_far =
+wires_refused lossy rate channels names i none wires all h is so_far =
     sym so_far
-    ∙ at_drop_more (λ more. result_map (λ later. wires ++ later) (wires_from i channels (texts more))) names i none h
-    ∙ ap (named i new_wire wires (wires_from (i + 1) channels (texts (drop (i + 1) names)))) (sym is)
+    ∙ at_drop_more (λ more. result_map (λ later. wires ++ later) (wires_from lossy rate i channels (texts more))) names i none h
+    ∙ ap (named i (new_wire lossy rate) wires (wires_from lossy rate (i + 1) channels (texts (drop (i + 1) names)))) (sym is)

@@ -354,18 +354,18 @@ sound_begun rate all wires old told new is h e =
 
 -- a sound whose wires or rate are refused
 pub wires_refuse :
-    (how : Coding) (channels : ℕ) (high : ℤ) (names : List (List ℕ)) (rate size : Option ℕ) (refusal : Refusal)
-    → IsRefusedBy (wires_of channels names) refusal → (bytes : List ℕ)
-    → IsRefusedBy (sound_says how channels high names rate size bytes) refusal
-wires_refuse how channels high names rate size refusal h = λ bytes other.
+    (how : Coding) (channels : ℕ) (high : ℤ) (names : List (List ℕ)) (lossy : Bool) (rate size : Option ℕ) (refusal : Refusal)
+    → IsRefusedBy (wires_of lossy rate channels names) refusal → (bytes : List ℕ)
+    → IsRefusedBy (sound_says how channels high names lossy rate size bytes) refusal
+wires_refuse how channels high names lossy rate size refusal h = λ bytes other.
     ap (result_and_then (wires_say how channels high rate size bytes)) (h other)
 
 pub rate_refuses :
-    (how : Coding) (channels : ℕ) (high : ℤ) (names : List (List ℕ)) (wires : List Channel) (rate size : Option ℕ)
-    (refusal : Refusal)
-    → wires_of channels names ≡ Ok wires → IsRefusedBy (rate_says rate) refusal → (bytes : List ℕ)
-    → IsRefusedBy (sound_says how channels high names rate size bytes) refusal
-rate_refuses how channels high names wires rate size refusal is h = λ bytes other.
+    (how : Coding) (channels : ℕ) (high : ℤ) (names : List (List ℕ)) (wires : List Channel) (lossy : Bool)
+    (rate size : Option ℕ) (refusal : Refusal)
+    → wires_of lossy rate channels names ≡ Ok wires → IsRefusedBy (rate_says rate) refusal → (bytes : List ℕ)
+    → IsRefusedBy (sound_says how channels high names lossy rate size bytes) refusal
+rate_refuses how channels high names wires lossy rate size refusal is h = λ bytes other.
     ap (result_and_then (wires_say how channels high rate size bytes)) is
     ∙ ap (λ r. result_and_then (bytes_say how channels high size bytes wires)
     (result_map (λ said. said ++ events.At FIRST_TICK ∷ []) r)) (h other)

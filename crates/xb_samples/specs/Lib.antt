@@ -8,3 +8,4 @@ pub mod Tails
 pub mod Thresholds
 pub mod Wavs
 pub mod Turns
+pub mod Doubts

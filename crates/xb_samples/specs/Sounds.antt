@@ -1,5 +1,5 @@
 -- What sound says: samples, each channel's in turn.
-use Rattle.std.specs.Prelude.{◌≡◌, ℕ, ◌+◌, ◌*◌, ◌/◌, ℤ, pos, neg_ℤ, int_le, List, [], ◌∷◌, ◌++◌, Bool, true, false, Option, Some, None, Result, Ok, Err, is_some, length, map, max, nat_le, nat_lt, not, option_map, take, unsigned_abs, unwrap_or, ◌==◌, ◌&&◌, if◌then◌else◌}
+use Rattle.std.specs.Prelude.{◌≡◌, ℕ, ◌+◌, ◌-◌, ◌*◌, ◌/◌, ◌^◌, ℤ, pos, neg_ℤ, int_le, List, [], ◌∷◌, ◌++◌, Bool, true, false, Option, Some, None, Result, Ok, Err, is_some, length, map, max, min, nat_le, nat_lt, not, option_map, take, unsigned_abs, unwrap_or, ◌==◌, ◌&&◌, ◌||◌, if◌then◌else◌}
 use Rattle.std.specs.List.{list_any}
 use Rattle.std.specs.Option.{ok_or, option_and_then}
 use Rattle.xb_contact.specs.declared.event.Event.{Event}
@@ -11,6 +11,7 @@ use Rattle.xb_contact.specs.Steps.{result_and_then, result_map}
 use Rattle.xb_contact.specs.declared.level.Level.{Level}
 use Rattle.xb_contact.specs.declared.level.Level.TheVariants.{Open, Closed}
 use Rattle.xb_contact.specs.Holds.{same_level}
+use Rattle.xb_samples.specs.declared.doubt.Doubt.{Doubt}
 use Rattle.xb_samples.specs.declared.sound.Channel.{Channel}
 use Rattle.xb_samples.specs.declared.sound.Heard.{Heard}
 use Rattle.xb_samples.specs.declared.sound.Heard.TheVariants as heard
@@ -80,20 +81,72 @@ heard_by high heard.Nothing sample = first_heard (side_of high sample) (is_at_re
 heard_by high heard.Rest sample = first_heard (side_of high sample) (is_at_rest high sample) heard.Rest
 heard_by high (heard.Side side) sample = first_heard (side_of high sample) (is_at_rest high sample) (heard.Side side)
 
--- a wire after a sample of a channel
-abbrev pub wire_after : ℕ → ℤ → ℤ → Channel → Channel
-wire_after channel high sample wire =
-    if wire.number == channel then record wire {
-      heard = heard_by high wire.heard sample;
-      greatest = max wire.greatest (unsigned_abs sample);
-    } else wire
-
 -- its level after its edges
 abbrev pub level_in : Heard → Option Level
 level_in (heard.Level level) = Some level
 level_in heard.Nothing = None
 level_in heard.Rest = None
 level_in (heard.Side side) = None
+
+-- the level by half of the threshold is that of the last sample that is not at rest
+abbrev pub low_after : ℤ → Level → ℤ → Level
+low_after high low sample =
+    if is_at_rest high sample then low else (if int_le sample (pos 0) then Open else Closed)
+
+-- for how many samples in a row it is another one than the level of the wire, once that has one
+abbrev pub apart_after : ℕ → Option Level → Level → ℕ
+apart_after apart None low = 0
+apart_after apart (Some level) low = if same_level level low then 0 else min (apart + 1) (2 ^ 64 - 1)
+
+-- how many samples are at rest since the last one on a side
+abbrev pub rest_by : ℕ → Option Level → Bool → ℕ
+rest_by rest None rests = if rests then min (rest + 1) (2 ^ 64 - 1) else rest
+rest_by rest (Some side) rests = 0
+
+-- a sample is on the side of the level that the wire has
+abbrev pub is_again : Option Level → Option Level → Bool
+is_again None side = false
+is_again (Some level) None = false
+is_again (Some level) (Some side) = same_level level side
+
+abbrev pub first_at : Option ℕ → Bool → ℕ → Option ℕ
+first_at (Some at) doubtful count = Some at
+first_at None doubtful count = if doubtful then Some count else None
+
+abbrev pub is_doubtful : ℕ → ℕ → ℕ → Bool → Bool
+is_doubtful patience apart rest again = nat_lt patience apart || (nat_lt patience rest && again)
+
+-- of no sample, where so many last 2 ms
+abbrev pub new_doubt : ℕ → Doubt
+new_doubt patience =
+    record { patience = patience; low = Open; apart = 0; rest = 0; count = 0; at = None }
+
+-- after one more, before and after which the wire has these levels, and after which half of the threshold hears this one:
+-- it is doubtful where the two are apart for over 2 ms, and where it is on the side of the level, after over 2 ms at rest
+abbrev pub doubt_by : ℤ → Option Level → Option Level → ℤ → Doubt → Level → Doubt
+doubt_by high was level sample doubt low = record {
+  patience = doubt.patience;
+  low = low;
+  apart = apart_after doubt.apart level low;
+  rest = rest_by doubt.rest (side_of high sample) (is_at_rest high sample);
+  count = min (doubt.count + 1) (2 ^ 64 - 1);
+  at = first_at doubt.at
+      (is_doubtful doubt.patience (apart_after doubt.apart level low) doubt.rest (is_again was (side_of high sample)))
+      (min (doubt.count + 1) (2 ^ 64 - 1));
+}
+
+abbrev pub doubt_after : ℤ → Option Level → Option Level → ℤ → Doubt → Doubt
+doubt_after high was level sample doubt =
+    doubt_by high was level sample doubt (low_after high doubt.low sample)
+
+-- a wire after a sample of a channel
+abbrev pub wire_after : ℕ → ℤ → ℤ → Channel → Channel
+wire_after channel high sample wire =
+    if wire.number == channel then record wire {
+      heard = heard_by high wire.heard sample;
+      doubt = doubt_after high (level_in wire.heard) (level_in (heard_by high wire.heard sample)) sample wire.doubt;
+      greatest = max wire.greatest (unsigned_abs sample);
+    } else wire
 
 -- an edge is said, with the tick up to which the old level held
 abbrev pub is_level : Option Level → Level → Bool
@@ -194,15 +247,31 @@ abbrev pub quiet_among : ℤ → List Channel → Option ℕ
 quiet_among high [] = None
 quiet_among high (wire ∷ rest) = if has_quiet_edges high wire then Some wire.greatest else quiet_among high rest
 
+-- of the first wire that is doubtful the sample is told, and the greatest threshold for which its greatest one is not quiet
+abbrev pub doubt_of : ℕ → Option ℕ → Option Refusal
+doubt_of greatest at = option_map (λ sample. refusals.Doubtful sample (greatest / 981)) at
+
+abbrev pub first_doubt : Option Refusal → Option Refusal → Option Refusal
+first_doubt (Some refusal) later = Some refusal
+first_doubt None later = later
+
+abbrev pub doubt_among : List Channel → Option Refusal
+doubt_among [] = None
+doubt_among (wire ∷ rest) = first_doubt (doubt_of wire.greatest wire.doubt.at) (doubt_among rest)
+
+-- a quiet wire is told, or else a doubtful one
+abbrev pub wires_fault : Option ℕ → Option Refusal → Option Refusal
+wires_fault quiet doubt = first_doubt (option_map quiet_fault quiet) doubt
+
 -- what is wrong at the end of a sound: so many bytes of it are wanted, more follows it, no tick has gone by, or its
--- greatest sample is quiet, or that of a wire that has edges
+-- greatest sample is quiet, or that of a wire that has edges, or a wire is doubtful
 abbrev pub end_fault : Option ℕ → Bool → SoundState → Option Refusal
 end_fault left more state =
     if nat_lt 0 (unwrap_or left 0) then Some (refusals.CutOff (unwrap_or left 0))
     else (if more then Some refusals.MoreFollows
     else (if state.count == FIRST_TICK then Some refusals.Empty
     else (if is_quiet state.high state.greatest then Some (quiet_fault state.greatest)
-    else option_map quiet_fault (quiet_among state.high state.wires))))
+    else wires_fault (quiet_among state.high state.wires) (doubt_among state.wires))))
 
 -- after further bytes
 abbrev pub samples_left : Sound → List ℕ → List ℤ
@@ -223,23 +292,29 @@ abbrev pub channel_of : ℕ → List ℕ → Option ℕ
 channel_of channels name =
     option_and_then (λ n. if nat_le 1 n && nat_le n channels then Some n else None) (number_of name)
 
-abbrev pub new_wire : ℕ → Channel
-new_wire number = record { number = number; heard = heard.Nothing; greatest = 0 }
+-- so many samples last 2 ms, two at least; where a wire may be heard otherwise for any time, all that are counted
+abbrev pub patience_of : Bool → Option ℕ → ℕ
+patience_of lossy rate = if lossy then 2 ^ 64 - 1 else max (unwrap_or rate 0 / 500) 2
+
+abbrev pub new_wire : Bool → Option ℕ → ℕ → Channel
+new_wire lossy rate number =
+    record { number = number; heard = heard.Nothing; doubt = new_doubt (patience_of lossy rate); greatest = 0 }
 
 -- those of names, from this wire on; the first name of none is told
-abbrev pub wires_from : ℕ → ℕ → List (List ℕ) → Result (List Channel) Refusal
-wires_from wire channels [] = Ok []
-wires_from wire channels (name ∷ names) =
-    result_and_then (λ number. result_map (λ rest. new_wire number ∷ rest) (wires_from (wire + 1) channels names))
+abbrev pub wires_from : Bool → Option ℕ → ℕ → ℕ → List (List ℕ) → Result (List Channel) Refusal
+wires_from lossy rate wire channels [] = Ok []
+wires_from lossy rate wire channels (name ∷ names) =
+    result_and_then (λ number.
+    result_map (λ rest. new_wire lossy rate number ∷ rest) (wires_from lossy rate (wire + 1) channels names))
     (ok_or (channel_of channels name) (refusals.NoWire wire))
 
-abbrev pub wires_of : ℕ → List (List ℕ) → Result (List Channel) Refusal
-wires_of channels names = wires_from 0 channels names
+abbrev pub wires_of : Bool → Option ℕ → ℕ → List (List ℕ) → Result (List Channel) Refusal
+wires_of lossy rate channels names = wires_from lossy rate 0 channels names
 
 -- nothing was taken of a sound of so many channels and bytes, where these are known
-abbrev pub IsNewSound : Coding → ℕ → ℤ → List (List ℕ) → Option ℕ → Sound → Type 0
-IsNewSound how channels high names length sound =
-    (result_map (begun_sound channels high) (wires_of channels names) ≡ Ok (sound_state sound))
+abbrev pub IsNewSound : Coding → ℕ → Bool → Option ℕ → ℤ → List (List ℕ) → Option ℕ → Sound → Type 0
+IsNewSound how channels lossy rate high names length sound =
+    (result_map (begun_sound channels high) (wires_of lossy rate channels names) ≡ Ok (sound_state sound))
     × (sound.begun.items ≡ []) × (sound.left ≡ length) × (sound.coding ≡ how) × IsNewTail length sound.tail
 
 -- what is said before the first sample: how long a tick is, and which is the first
@@ -266,6 +341,6 @@ wires_say how channels high rate length bytes wires =
 
 -- all bytes of a sound of so many channels from the first sample on, and so many bytes, where that is known
 abbrev pub sound_says :
-    Coding → ℕ → ℤ → List (List ℕ) → Option ℕ → Option ℕ → List ℕ → Result (List Event) Refusal
-sound_says how channels high names rate length bytes =
-    result_and_then (wires_say how channels high rate length bytes) (wires_of channels names)
+    Coding → ℕ → ℤ → List (List ℕ) → Bool → Option ℕ → Option ℕ → List ℕ → Result (List Event) Refusal
+sound_says how channels high names lossy rate length bytes =
+    result_and_then (wires_say how channels high rate length bytes) (wires_of lossy rate channels names)

@@ -1,4 +1,5 @@
 //! What the definitions of `specs/` come to: each law is the contract of a function that does nothing.
+ghost use Rattle.xb_samples.specs.Doubts.{DoubtsAreTold};
 ghost use Rattle.xb_samples.specs.Greatest.{MeasuresTheGreatest};
 ghost use Rattle.xb_samples.specs.Hysteresis.{HearsEachLevel};
 ghost use Rattle.xb_samples.specs.Turns.{TurnsAreTold};
@@ -29,6 +30,12 @@ pub fn turns_are_told()
 /// on tell none.
 pub fn spikes_tell_levels()
     ensures { SpikesTellLevels }
+{}
+
+/// A wire is doubtful after a spike to the level that it has, with over 2 ms at rest before it, and where half of the
+/// threshold hears the other level for as long; the first such sample stays.
+pub fn doubts_are_told()
+    ensures { DoubtsAreTold }
 {}
 
 /// How many turns of a sample of two bytes are counted, and the tick of the first samples of a sound.

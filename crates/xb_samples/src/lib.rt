@@ -13,8 +13,10 @@
 //!   `laws::turns_are_told`: levels that are held for two samples are never taken for them, and two different
 //!   bytes that come 126 times over are.
 //! - `Sound::end` gives what the samples say exactly where the whole sound has no fault (`end_fault`): each
-//!   byte that its head counts has come, nothing but chunks follows (`Tails`), a tick has gone by, and the
-//!   greatest sample of the wires is at least three times the threshold.
+//!   byte that its head counts has come, nothing but chunks follows (`Tails`), a tick has gone by, the greatest
+//!   sample of the wires is at least three times the threshold, and no wire may be read otherwise.
+//! - `laws::doubts_are_told` (`Doubts`): a wire may be read otherwise where half of the threshold hears another level
+//!   for over 2 ms, and after a second spike of one direction.
 //! - `laws::each_level_is_heard`: two thresholds hear each level of a sound that is disturbed by less than
 //!   they differ.
 //! - `laws::spikes_tell_levels` (`Spikes`): the first edge of a wire is a spike after rest, or a step to the other
@@ -24,6 +26,7 @@
 #![tactic(auto)]
 
 mod bits;
+mod doubt;
 pub mod laws;
 mod sound;
 mod tail;

@@ -4,11 +4,12 @@ ghost use Rattle.std.specs.List.{list_any};
 ghost use Rattle.xb_contact.specs.Steps.{AddsAll, IsOnly, IsRefusedBy, result_and_then};
 ghost use Rattle.xb_contact.specs.declared.event.Event.{Event as Saying};
 ghost use Rattle.xb_samples.specs.Pieces.{RunsOver, after_piece, piece_events};
-ghost use Rattle.xb_samples.specs.Sounds.{IsNewSound, SoundSays, begun_after, can_leave, changes_said, channel_of, edge_said, end_fault, greatest_after, has_quiet_edges, heard_by, high_of, is_channel, level_in, own_bytes, quiet_among, rest_said, rests_said, samples_after, sound_begins, sound_fault, sound_reading, sound_says, sound_state, turned, wire_after, wires_of};
+ghost use Rattle.xb_samples.specs.Sounds.{IsNewSound, SoundSays, begun_after, can_leave, changes_said, channel_of, edge_said, end_fault, greatest_after, has_quiet_edges, heard_by, doubt_among, high_of, is_channel, level_in, own_bytes, patience_of, quiet_among, rest_said, rests_said, samples_after, sound_begins, sound_fault, sound_reading, sound_says, sound_state, turned, wire_after, wires_of};
 ghost use Rattle.xb_samples.specs.declared.sound.TheConstants.{FIRST_TICK};
 ghost use Rattle.xb_samples.specs.Tails.{follows_more, left_after};
 
 use crate::bits::say_rate;
+use crate::doubt::Doubt;
 use crate::tail::Tail;
 use crate::threshold::{
     Threshold, heard_level, high_of, is_at_rest, is_quiet, quiet_fault, side_of,
@@ -38,8 +39,20 @@ enum Heard {
 struct Channel {
     number: u8,
     heard: Heard,
+    doubt: Doubt,
     // Its greatest sample, whatever its sign.
     greatest: u16,
+}
+
+// For how many ticks a channel may be heard otherwise: 2 ms, and 2 ticks at least; or any number, where it may.
+fn patience_of(lossy: bool, rate: Option<u64>) -> u64
+    ensures { result ≡ patience_of lossy rate }
+{
+    if lossy {
+        u64::MAX
+    } else {
+        (rate.unwrap_or(0) / 500).max(2)
+    }
 }
 
 // The channel that a wire is, by its number.
@@ -53,10 +66,17 @@ fn channel_of(name: &str, channels: u8) -> Option<u8>
 }
 
 // The wires of these names, of which nothing was heard. The first name of none is told.
-fn wires_of(alloc: Global, names: &[&str], channels: u8) -> Result<Vec<Channel>, Refusal>
+fn wires_of(
+    alloc: Global,
+    names: &[&str],
+    channels: u8,
+    lossy: bool,
+    rate: Option<u64>,
+) -> Result<Vec<Channel>, Refusal>
     ensures said { IfOk result (λ wires.
-        wires_of channels (map (λ name. name.now) names.now) ≡ Ok wires.items) }
-    ensures refused { IfErr result (IsRefusedBy (wires_of channels (map (λ name. name.now) names.now))) }
+        wires_of lossy rate channels (map (λ name. name.now) names.now) ≡ Ok wires.items) }
+    ensures refused { IfErr result
+        (IsRefusedBy (wires_of lossy rate channels (map (λ name. name.now) names.now))) }
 {
     let mut wires = Vec::new(alloc);
     for (wire, name) in names.iter().enumerate() {
@@ -65,6 +85,7 @@ fn wires_of(alloc: Global, names: &[&str], channels: u8) -> Result<Vec<Channel>,
                 let channel = Channel {
                     number,
                     heard: Heard::Nothing,
+                    doubt: Doubt::new(patience_of(lossy, rate)),
                     greatest: 0,
                 };
                 wires.push(channel).map_err(AllocError::from)?
@@ -139,18 +160,17 @@ fn wire_after(channel: u8, high: i16, sample: i16, wire: Channel) -> Channel
     requires { pos 0 <ℤ high }
     ensures { result ≡ wire_after channel high sample wire }
 {
-    let Channel {
-        number,
-        heard,
-        greatest,
-    } = wire;
-    if number != channel {
+    if wire.number != channel {
         return wire;
     }
+    let heard = heard_by(high, wire.heard, sample);
     Channel {
-        number,
-        heard: heard_by(high, heard, sample),
-        greatest: greatest.max(sample.unsigned_abs()),
+        number: wire.number,
+        heard,
+        doubt: wire
+            .doubt
+            .after(high, level_in(wire.heard), level_in(heard), sample),
+        greatest: wire.greatest.max(sample.unsigned_abs()),
     }
 }
 
@@ -218,6 +238,18 @@ fn quiet_among(threshold: Threshold, wires: &[Channel]) -> Option<u16>
     None
 }
 
+// What is told of the first wire that may be read otherwise.
+fn doubt_among(wires: &[Channel]) -> Option<Refusal>
+    ensures { result ≡ doubt_among wires.now }
+{
+    for wire in wires {
+        if let Some(sample) = wire.doubt.at() {
+            return Some(Refusal::Doubtful(sample, (wire.greatest / 981) as u8));
+        }
+    }
+    None
+}
+
 // Whether a channel is a wire.
 fn is_wire(channel: u8, wires: &[Channel]) -> bool
     ensures { result ≡ list_any (is_channel channel) wires.now }
@@ -265,7 +297,8 @@ pub struct Sound {
 
 impl Sound {
     /// A reader of the wires of these names, which are their channels' numbers, 1 and so on. The sound has so many
-    /// bytes, where that is known. Without a rate, or with another name, it is refused, and so is any such sound.
+    /// bytes, where that is known. Without a rate, or with another name, it is refused, and so is any such sound. Where it
+    /// is `lossy`, a wire that may be read otherwise is none that is refused.
     pub fn new(
         alloc: Global,
         names: &[&str],
@@ -273,17 +306,18 @@ impl Sound {
         channels: u8,
         rate: Option<u64>,
         threshold: Threshold,
+        lossy: bool,
         length: Option<u64>,
         events: &mut Vec<Event>,
     ) -> Result<Sound, Refusal>
         ensures begun { IfOk result
-            (IsNewSound coding channels (high_of threshold) (map (λ name. name.now) names.now) length) }
+            (IsNewSound coding channels lossy rate (high_of threshold) (map (λ name. name.now) names.now) length) }
         ensures said { OnOk result (AddsAll (result_and_then (sound_begins rate)
-            (wires_of channels (map (λ name. name.now) names.now))) events.old.items events.new.items) }
+            (wires_of lossy rate channels (map (λ name. name.now) names.now))) events.old.items events.new.items) }
         ensures refused { IfErr result (λ e. (bytes : List ℕ) → IsRefusedBy (sound_says coding channels
-            (high_of threshold) (map (λ name. name.now) names.now) rate length bytes) e) }
+            (high_of threshold) (map (λ name. name.now) names.now) lossy rate length bytes) e) }
     {
-        let wires = wires_of(alloc, names, channels)?;
+        let wires = wires_of(alloc, names, channels, lossy, rate)?;
         say_rate(events, rate)?;
         say(events, Event::At(FIRST_TICK))?;
         Ok(Sound {
@@ -444,14 +478,16 @@ impl Sound {
         }
         match quiet_among(self.threshold, &self.wires) {
             Some(greatest) => Some(quiet_fault(greatest)),
-            None => None,
+            None => doubt_among(&self.wires),
         }
     }
 
-    /// The end: the wires hold their levels up to where the samples go, and one without an edge rests there. It is refused where bytes are missing that the
-    /// head counts (`CutOff`), where more follows these than chunks (`MoreFollows`), where no tick has gone by
-    /// (`Empty`), and where the greatest sample of the wires, or of one that has an edge, is under three times the threshold
-    /// (`Quiet`, or `Silent` where it is under three times the least one).
+    /// The end: the wires hold their levels up to where the samples go, and one without an edge rests there. It is refused
+    /// where bytes are missing that the head counts (`CutOff`), where more follows these than chunks (`MoreFollows`), where
+    /// no tick has gone by (`Empty`), where the greatest sample of the wires, or of one that has an edge, is under three
+    /// times the threshold (`Quiet`, or `Silent` where it is under three times the least one), and where a wire may be read
+    /// otherwise: it had another level by half of the threshold for over 2 ms, or after 2 ms at rest a spike to the level
+    /// that it had (`Doubtful`, with the first such sample).
     pub fn end(&self, events: &mut Vec<Event>) -> Result<(), Refusal>
         requires { events.old.items ≡ [] }
         ensures said { OnOk result (SoundSays self.now [] events.new.items) }

@@ -1,4 +1,4 @@
-// Samples of sixteen wires, and sound that ends before its length, goes on after it, or is quiet.
+// Samples of sixteen wires, and sound that ends before its length, goes on after it, is quiet, or is doubtful.
 use crate::loops::attending::Mfloop;
 use std::alloc::Global;
 use std::test::Fail;
@@ -121,6 +121,32 @@ const LEVELS: &[(&str, &[u8], &[u8], &[u8], &str)] = &[
     ),
 ];
 
+// What follows the head, its rows, and the first sample that is doubtful, if one is. A sample lasts 5 ms: two are no doubt,
+// and a third one is. Half of the threshold is 981; a sample of 0x7a is 1536 below 0.
+const DOUBTS: &[(&[u8], &[u8], &str)] = &[
+    (
+        b"\x06\x00\x00\x00\x80\x80\xff\x7a\x7a\xff",
+        b"line,state,ms\n7,B,10\n7,M,20\n",
+        "",
+    ),
+    (
+        b"\x07\x00\x00\x00\x80\x80\xff\x7a\x7a\x7a\xff",
+        b"line,state,ms\n7,B,10\n7,M,25\n",
+        "6",
+    ),
+    // a spike up, as much at rest as is allowed, and another one; and where direct current passes
+    (
+        b"\x07\x00\x00\x00\x80\x80\xff\x80\x80\xff\x80",
+        b"line,state,ms\n7,B,10\n7,M,25\n",
+        "",
+    ),
+    (
+        b"\x08\x00\x00\x00\x80\x80\xff\x80\x80\x80\xff\xff",
+        b"line,state,ms\n7,B,10\n7,M,30\n",
+        "7",
+    ),
+];
+
 // Wire 10 closes with the third sample; half a sample is none.
 const SIXTEEN: &[u8] = b"\xff\xfb\x00\x00\x00\x04\x10\x05\x04\x04\xff";
 
@@ -221,6 +247,40 @@ fn advises_a_threshold_for_quiet_sound(rt: HostRuntime) -> Result<(), Fail> {
             line: &told,
         };
         check_status(rt.alloc(), &Mfloop, &["--wire", *wire], &recording, wanted)?;
+    }
+    Ok(())
+}
+
+// The greatest sample is 32,512, of which 33 parts of a hundred are a third.
+#[test]
+fn tells_from_where_sound_is_doubtful(rt: HostRuntime) -> Result<(), Fail> {
+    for (bytes, rows, sample) in DOUBTS {
+        let mut recording = HEAD.to_vec(rt.alloc())?;
+        recording.extend_from_slice(bytes)?;
+        let words = ["--wire", "7=1", "--lossy", "--format", "wav"];
+        check_status(rt.alloc(), &Mfloop, &words, &recording, Gives::page(rows))?;
+        if sample.is_empty() {
+            check_status(
+                rt.alloc(),
+                &Mfloop,
+                &words[..2],
+                &recording,
+                Gives::page(rows),
+            )?;
+            continue;
+        }
+        let mut told = Vec::new(rt.alloc());
+        told.extend_from_slice(b"mfloop: the end of the recording: from sample ")?;
+        told.extend_from_slice(sample.as_bytes())?;
+        told.extend_from_slice(
+            b" on it may be read otherwise: try --threshold 33, or record the contact alone\n",
+        )?;
+        let wanted = Gives {
+            status: 1,
+            written: BREAK,
+            line: &told,
+        };
+        check_status(rt.alloc(), &Mfloop, &words[..2], &recording, wanted)?;
     }
     Ok(())
 }

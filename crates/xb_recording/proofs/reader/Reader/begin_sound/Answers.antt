@@ -13,7 +13,7 @@ returns-clause-said c =
     let sound = c.in_ok-sound.sound in
     let before = c.new.new.events.items in
     let taken = c.in_ok-take.ensures.said in
-    let begun : IsBegunSound format.coding format.channels (Some format.rate) format.length (high_of wanted.threshold) (names_in wanted)
+    let begun : IsBegunSound format.coding format.channels wanted.lossy (Some format.rate) format.length (high_of wanted.threshold) (names_in wanted)
     (sources.Sound sound) before = search rules in
     samples_begin format wanted sound c.take.new.self c.args.bytes.now before taken.0 c.take.new.events.items begun taken.1 taken.2
 
@@ -24,7 +24,7 @@ returns-clause-refusals c =
     let sound = c.in_ok-sound.sound in
     let before = c.new.new.events.items in
     let bytes = c.args.bytes.now in
-    let begun : IsBegunSound format.coding format.channels (Some format.rate) format.length (high_of wanted.threshold) (names_in wanted)
+    let begun : IsBegunSound format.coding format.channels wanted.lossy (Some format.rate) format.length (high_of wanted.threshold) (names_in wanted)
     (sources.Sound sound) before = search rules in
     λ text refusal k.
     sound_is_refused format.coding format.channels (Some format.rate) format.length wanted (sources.Sound sound) before begun []

@@ -13,7 +13,7 @@ returns-clause-begun c =
 
 pub returns-clause-said : goal.returns-clause-said
 returns-clause-said c =
-    sound_begun c.args.rate (wires_of c.args.channels (texts c.args.names.now)) c.in_ok-wires.wires.items
+    sound_begun c.args.rate (wires_of c.args.lossy c.args.rate c.args.channels (texts c.args.names.now)) c.in_ok-wires.wires.items
     c.args.events.now.items c.say_rate.new.events.items c.say.new.events.items c.in_ok-wires.ensures.said
     c.in_ok-say_rate.ensures.said c.in_ok-say.ensures.said
 
@@ -23,9 +23,9 @@ returns-in_err-wires-clause-refused c =
     let high = high_of c.args.threshold in
     let names = texts c.args.names.now in
     let P : Refusal → Type 0 =
-    λ e. (bytes : List ℕ) → IsRefusedBy (sound_says c.args.coding c.args.channels high names c.args.rate c.args.length bytes) e in
+    λ e. (bytes : List ℕ) → IsRefusedBy (sound_says c.args.coding c.args.channels high names c.args.lossy c.args.rate c.args.length bytes) e in
     refused_with c.from_residual.result refusal P c.from_residual.ensures.1
-    (wires_refuse c.args.coding c.args.channels high names c.args.rate c.args.length refusal c.in_err-wires.ensures.refused)
+    (wires_refuse c.args.coding c.args.channels high names c.args.lossy c.args.rate c.args.length refusal c.in_err-wires.ensures.refused)
 
 pub returns-in_err-say_rate-clause-refused : goal.returns-in_err-say_rate-clause-refused
 returns-in_err-say_rate-clause-refused c =
@@ -33,8 +33,8 @@ returns-in_err-say_rate-clause-refused c =
     let high = high_of c.args.threshold in
     let names = texts c.args.names.now in
     let P : Refusal → Type 0 =
-    λ e. (bytes : List ℕ) → IsRefusedBy (sound_says c.args.coding c.args.channels high names c.args.rate c.args.length bytes) e in
+    λ e. (bytes : List ℕ) → IsRefusedBy (sound_says c.args.coding c.args.channels high names c.args.lossy c.args.rate c.args.length bytes) e in
     refused_with c.from_residual-in_err-say_rate.result refusal P c.from_residual-in_err-say_rate.ensures.1
-    (rate_refuses c.args.coding c.args.channels high names c.in_ok-wires.wires.items c.args.rate c.args.length refusal
+    (rate_refuses c.args.coding c.args.channels high names c.in_ok-wires.wires.items c.args.lossy c.args.rate c.args.length refusal
     c.in_ok-wires.ensures.said
     c.in_err-say_rate.ensures.refused)
