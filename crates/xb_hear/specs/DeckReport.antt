@@ -10,12 +10,14 @@ use Rattle.xb_deck.specs.declared.fault.DeckFault.TheVariants as deck_fault
 use Rattle.xb_deck.specs.Contents.{Contents, contents_of}
 use Rattle.xb_text.specs.Writing.{AppendsBeginning}
 use Rattle.xb_picture.specs.Drawing.{IsPicture}
+use Rattle.xb_hear.specs.declared.deck_report.Heard.{Heard}
 use Rattle.xb_hear.specs.declared.fault.HearFault.{HearFault}
 use Rattle.xb_hear.specs.declared.fault.HearFault.TheVariants as fault
 use Rattle.xb_hear.specs.declared.request.Request.{Request}
 use Rattle.xb_hear.specs.declared.request.Request.TheVariants as request
 use Rattle.xb_hear.specs.Choosing.{is_chosen_other, is_chosen_refused}
 use Rattle.xb_hear.specs.LineAttempts.{AgreesWithPage, attempts_of_line, lines_with}
+use Rattle.xb_hear.specs.Notes.{notes_of}
 use Rattle.xb_hear.specs.Places.{before_records}
 use Rattle.xb_hear.specs.ToldLines.{AreTold, IsTold, IsWhole, list_of}
 
@@ -75,31 +77,41 @@ and_asked request (Err f) = Err (fault.Deck f)
 abbrev pub says : Request → List ℕ → Result Contents HearFault
 says request deck = and_asked request (contents_of deck)
 
--- a text is what is asked for of what a deck has in it; what it says came of the attempts is what the page has
-pub record Tells (asked : Request) (before : Option ℕ) (said : Result Contents HearFault) (text : List ℕ)
+-- the same, with the notes of lines
+abbrev pub GivesAll : Request → Option ℕ → Plan → Limits → List LoopRow → Result Heard HearFault → Type 0
+GivesAll asked before plan limits rows (Ok heard) =
+    (found asked plan limits rows ≡ Ok tt) × IsAsked asked before plan limits rows (string_bytes heard.text)
+    × (string_bytes heard.notes ≡ notes_of asked limits rows)
+GivesAll asked before plan limits rows (Err f) = IsFaultOf (found asked plan limits rows) f
+
+-- texts are what is asked for of what a deck has in it, and the notes of its lines; what the first says came of the attempts
+-- is what the page has
+pub record Tells (asked : Request) (before : Option ℕ) (said : Result Contents HearFault) (text notes : List ℕ)
     : Type 0 where
   pub deck : Contents
   pub is : said ≡ Ok deck
   pub text_is : IsAsked asked before deck.table.plan deck.table.limits deck.rows text
+  pub notes_are : notes ≡ notes_of asked deck.table.limits deck.rows
   pub agrees : AgreesWithPage deck.table.plan deck.table.limits deck.rows
 
 -- what is returned is what is told of a deck, or its fault
-abbrev pub Reports : {A : Type 0} → Request → Option ℕ → Result Contents HearFault → Result (String A) HearFault
-    → Type 0
-Reports asked before said (Ok text) = Tells asked before said (string_bytes text)
+abbrev pub Reports : Request → Option ℕ → Result Contents HearFault → Result Heard HearFault → Type 0
+Reports asked before said (Ok heard) = Tells asked before said (string_bytes heard.text) (string_bytes heard.notes)
 Reports asked before said (Err f) = IsFaultOf said f
 
 -- the writer got what is asked for of a deck: all of it, or its beginning
-abbrev pub Gets : (Option (List ℕ) → Option (List ℕ) → List ℕ → Type 0) → Request → List ℕ
+abbrev pub Gets : (Option (List ℕ) → Option (List ℕ) → List ℕ → Type 0) → Request → List ℕ → List ℕ
     → Option (List ℕ) → Option (List ℕ) → Type 0
-Gets IsPut asked deck old new =
-    (text : List ℕ) × Tells asked (before_records deck) (says asked deck) text × IsPut old new text
+Gets IsPut asked deck notes old new =
+    (text : List ℕ) × Tells asked (before_records deck) (says asked deck) text notes × IsPut old new text
 
--- what is returned for a deck, and what the writer got of it: all on Ok, its beginning where a write failed,
--- and nothing on any other fault; a fault of the deck is what the deck says
-abbrev pub Delivers :
-    Request → Option (List ℕ) → Result (Unit {0}) HearFault → Option (List ℕ) → Option (List ℕ) → Type 0
-Delivers asked deck (Ok u) old new = IfSome deck (λ bytes. Gets Appends asked bytes old new)
-Delivers asked deck (Err fault.Write) old new = IfSome deck (λ bytes. Gets AppendsBeginning asked bytes old new)
-Delivers asked deck (Err f) old new =
+-- all of it, and these are its notes
+abbrev pub Delivers : Request → Option (List ℕ) → List ℕ → Option (List ℕ) → Option (List ℕ) → Type 0
+Delivers asked deck notes old new = IfSome deck (λ bytes. Gets Appends asked bytes notes old new)
+
+-- its beginning where a write failed, and nothing on any other fault; a fault of the deck is what the deck says
+abbrev pub FailsToDeliver : Request → Option (List ℕ) → HearFault → Option (List ℕ) → Option (List ℕ) → Type 0
+FailsToDeliver asked deck fault.Write old new =
+    IfSome deck (λ bytes. (notes : List ℕ) × Gets AppendsBeginning asked bytes notes old new)
+FailsToDeliver asked deck f old new =
     Keeps old new × IfSome deck (λ bytes. IsFaultOf (says asked bytes) f)

@@ -13,3 +13,4 @@ hear_text (hear.Deck fault) = deck_text fault
 hear_text (hear.NoAttempts line) = codes "line " ++ decimal line ++ codes " has no attempt"
 hear_text (hear.NoAttempt number) = codes "the line has no attempt " ++ decimal number
 hear_text hear.Write = codes "the report could not be written"
+hear_text hear.Tell = codes "what looks exchanged could not be told of"

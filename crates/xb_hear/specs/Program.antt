@@ -1,34 +1,48 @@
 -- What the program does.
-use Rattle.std.specs.Prelude.{◌≡◌, ℕ, ◌⊎◌, ◌++◌, Bool, true, false, List, [], Option, None, Some, Err, Ok, codes, if◌then◌else◌}
+use Rattle.std.specs.Prelude.{◌≡◌, ℕ, ◌⊎◌, ◌++◌, Bool, true, false, List, [], Option, None, Some, codes, if◌then◌else◌}
 use Rattle.std.specs.Borrow.{Bor}
-use Rattle.std.specs.Io.KnownBytes.{Keeps}
+use Rattle.std.specs.Io.KnownBytes.{Appends, Keeps}
 use Rattle.clap.specs.Walk.{Text}
 use Rattle.xb_command.specs.Files.{Bytes}
 use Rattle.xb_command.specs.Programs.{Streams, streams}
 use Rattle.xb_command.specs.Telling.{Tells}
+use Rattle.xb_command.specs.declared.telling.TheConstants.{DONE, FAULT}
+use Rattle.xb_text.specs.Writing.{AppendsBeginning}
 use Rattle.xb_command.specs.Works.{AsksBy, AsksNothing, Rules, file_source, text_source}
 use Rattle.xb_command.specs.declared.table.Call.{Call}
 use Rattle.xb_command.specs.declared.table.Program.{Program}
 use Rattle.xb_command.specs.declared.work.Source.{Source}
 use Rattle.xb_hear.specs.declared.fault.HearFault.{HearFault}
+use Rattle.xb_hear.specs.declared.fault.HearFault.TheVariants as hear
 use Rattle.xb_hear.specs.declared.request.Asked.{Asked}
 use Rattle.xb_hear.specs.declared.request.Recording.{Recording}
 use Rattle.xb_hear.specs.declared.request.Request.{Request}
 use Rattle.xb_hear.specs.declared.words.Options.{Options}
-use Rattle.xb_hear.specs.DeckReport.{Delivers}
+use Rattle.xb_hear.specs.DeckReport.{Delivers, FailsToDeliver}
 use Rattle.xb_hear.specs.Options.{Say, request_of}
 use Rattle.xb_hear.specs.FaultTexts.{hear_text}
 
--- exactly the report that is asked for was written
+-- exactly the report that is asked for was written, and its notes were told
 pub record WritesReport (request : Request) (old new : Streams) : Type 0 where
-  pub report : Delivers request old.input (Ok tt) old.output new.output
-  pub quiet : Keeps old.errors new.errors
+  pub notes : List ℕ
+  pub report : Delivers request old.input notes old.output new.output
+  pub told : Appends old.errors new.errors notes
 
--- there was a fault, and a line says so
-pub record HasFault (request : Request) (program : Program) (old new : Streams) : Type 0 where
-  pub fault : HearFault
-  pub report : Delivers request old.input (Err fault) old.output new.output
-  pub line : Tells program.name.now (Some (hear_text fault)) old.errors new.errors
+-- there was a fault, and a line says so; or all was written, its notes were not told, and a line says so
+abbrev pub HasFault : Request → Program → Streams → Streams → Type 0
+HasFault request program old new =
+    ((fault : HearFault) × FailsToDeliver request old.input fault old.output new.output
+    × Tells program.name.now (Some (hear_text fault)) old.errors new.errors)
+    ⊎ ((notes : List ℕ) × (begun : Option (List ℕ)) × Delivers request old.input notes old.output new.output
+    × AppendsBeginning old.errors begun notes
+    × Tells program.name.now (Some (hear_text hear.Tell)) begun new.errors)
+
+-- the notes are told, and the status
+abbrev pub TellsNotes : Text → List ℕ → Option (List ℕ) → Option (List ℕ) → ℕ → Type 0
+TellsNotes program notes old new status =
+    ((status ≡ DONE) × Appends old new notes)
+    ⊎ ((status ≡ FAULT) × ((begun : Option (List ℕ)) × AppendsBeginning old begun notes
+    × Tells program (Some (hear_text hear.Tell)) begun new))
 
 -- what stands before the rows of a recording: the route table that is printed with them, or the line that cuts off an
 -- empty one

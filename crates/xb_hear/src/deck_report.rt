@@ -1,9 +1,9 @@
 // From a deck on a reader to its report, page or picture on a writer.
-ghost use Rattle.std.specs.Prelude.{◌≡◌, ◌≤◌, ◌<◌, ◌^◌, Err, IfErr, IfOk, Some, length};
+ghost use Rattle.std.specs.Prelude.{◌≡◌, ◌≤◌, ◌<◌, ◌^◌, Err, IfErr, IfOk, Some, length, string_bytes};
 ghost use Rattle.xb_deck.specs.declared.deck.TheConstants.{MOST_DECK_BYTES};
 ghost use Rattle.xb_deck.specs.Contents.{IsRowsFault, contents_of, contents_of_parts, with_rows};
 ghost use Rattle.xb_deck.specs.Deck.{deck_parts, parts_of_deck};
-ghost use Rattle.xb_hear.specs.DeckReport.{Delivers, Gives, Reports, and_asked, says};
+ghost use Rattle.xb_hear.specs.DeckReport.{Delivers, FailsToDeliver, Gives, GivesAll, Reports, and_asked, says};
 ghost use Rattle.xb_hear.specs.Places.{before_records, lines_before};
 ghost use Rattle.xb_rows.specs.RowResults.{AreRowsOf};
 ghost use Rattle.xb_rows.specs.RowTexts.{fault_of_text, rows_of_text};
@@ -13,6 +13,7 @@ use crate::fault::HearFault;
 use crate::line::{picture_of_line, text_of_line};
 use crate::line_page::Manner;
 use crate::lines::text_of_lines;
+use crate::notes::notes_of;
 use crate::record_lines::lines_before;
 use crate::request::Request;
 use std::alloc::Global;
@@ -22,6 +23,13 @@ use xb_model::{Limits, Plan, Row};
 use xb_routes::RouteTable;
 use xb_rows::rows_of_text;
 use xb_text::write_whole;
+
+// What is told of a deck: what is asked for, and the notes of its lines.
+#[derive(Drop)]
+struct Heard {
+    text: String,
+    notes: String,
+}
 
 // What is asked for of rows, by this plan and these limits.
 fn text_of(
@@ -58,6 +66,23 @@ fn text_of(
     }
 }
 
+// The same, and the notes of lines.
+fn heard_in(
+    alloc: Global,
+    request: Request,
+    before: Option<u64>,
+    plan: Plan,
+    limits: Limits,
+    rows: &[Row],
+) -> Result<Heard, HearFault>
+    requires { length rows.now < 2 ^ 32 }
+    ensures { GivesAll request before plan limits rows.now result }
+{
+    let text = text_of(alloc, request, before, plan, limits, rows)?;
+    let notes = notes_of(alloc, request, limits, rows)?;
+    Ok(Heard { text, notes })
+}
+
 // The rows of a text.
 fn rows_of(alloc: Global, text: &[u8]) -> Result<Vec<Row>, DeckFault>
     ensures rows { IfOk result (λ rows. AreRowsOf text.now rows.items) }
@@ -67,20 +92,20 @@ fn rows_of(alloc: Global, text: &[u8]) -> Result<Vec<Row>, DeckFault>
     Ok(rows_of_text(alloc, text)?)
 }
 
-// What is asked for of a table with its text, and of the text of rows.
-fn text_of_rows(
+// What is told of a table with its text, and of the text of rows.
+fn heard_in_text(
     alloc: Global,
     request: Request,
     table: &RouteTable,
     table_text: &[u8],
     rows: &[u8],
-) -> Result<String, HearFault>
+) -> Result<Heard, HearFault>
     ensures { Reports request (lines_before table_text.now rows.now (length (rows_of_text rows.now)))
         (and_asked request (with_rows table.now (rows_of_text rows.now) (fault_of_text rows.now))) result }
 {
     let read = rows_of(alloc, rows)?;
     let before = lines_before(table_text, rows, read.len());
-    text_of(alloc, request, before, table.plan(), table.limits(), &read)
+    heard_in(alloc, request, before, table.plan(), table.limits(), &read)
 }
 
 // The parts of a deck.
@@ -94,20 +119,20 @@ fn parts_of(bytes: &[u8]) -> Result<Deck<'_>, DeckFault>
     Deck::cut(bytes).ok_or(DeckFault::NoCut)
 }
 
-// What is asked for of a deck that was read.
-fn text_of_deck(alloc: Global, request: Request, bytes: &[u8]) -> Result<String, HearFault>
+// What is told of a deck that was read.
+fn heard_in_deck(alloc: Global, request: Request, bytes: &[u8]) -> Result<Heard, HearFault>
     requires { length bytes.now ≤ MOST_DECK_BYTES }
     ensures { Reports request (before_records bytes.now) (says request bytes.now) result }
 {
     let deck = parts_of(bytes)?;
     let table = deck.route_table(alloc)?;
-    text_of_rows(alloc, request, &table, deck.table, deck.rows)
+    heard_in_text(alloc, request, &table, deck.table, deck.rows)
 }
 
 /// Reads a deck, and writes what is asked for: of the report the limits of the deck, and each attempt with
 /// its digits, their figures, what spoiled them and where, and what came of it, as a text or as a page of
 /// HTML; or the picture of a line; or an object of JSON for each attempt. Nothing is written before the whole
-/// deck is read: a page is held in memory, and then written.
+/// deck is read: a page is held in memory, and then written. It returns the notes of lines that look exchanged.
 ///
 /// Where a line is asked for that has no attempt, `Err` is `NoAttempts`; `NoAttempt` where it has fewer than the
 /// one that is to be drawn. On an `Err` nothing was written, except on `Write`, where the beginning was.
@@ -119,11 +144,14 @@ pub fn hear<R: Read, W: Write>(
     request: Request,
     deck: &mut R,
     out: &mut W,
-) -> Result<(), HearFault>
-    ensures { Delivers request (R.remaining deck.old) result (W.contents out.old) (W.contents out.new) }
+) -> Result<String, HearFault>
+    ensures told { IfOk result (λ notes. Delivers request (R.remaining deck.old) (string_bytes notes)
+        (W.contents out.old) (W.contents out.new)) }
+    ensures fault { IfErr result (λ f. FailsToDeliver request (R.remaining deck.old) f
+        (W.contents out.old) (W.contents out.new)) }
 {
     let bytes = read_deck(alloc, deck)?;
-    let text = text_of_deck(alloc, request, &bytes)?;
+    let Heard { text, notes } = heard_in_deck(alloc, request, &bytes)?;
     write_whole(out, text.as_bytes())?;
-    Ok(())
+    Ok(notes)
 }

@@ -3,9 +3,10 @@ ghost use Rattle.std.specs.Prelude.{◌≡◌, IfErr, IfOk};
 ghost use Rattle.xb_command.specs.Answers.{Takes};
 ghost use Rattle.xb_command.specs.Programs.{streams};
 ghost use Rattle.xb_command.specs.Works.{IsWrong, Runs};
-ghost use Rattle.xb_hear.specs.Program.{HasFault, IsOfRecording, WritesReport, before_rows};
+ghost use Rattle.xb_hear.specs.Program.{HasFault, IsOfRecording, TellsNotes, WritesReport, before_rows};
 
 use crate::deck_report::hear;
+use crate::fault::HearFault;
 use crate::request::{Asked, Recording, Request};
 use crate::words::{Options, options_of, request_of};
 use std::alloc::Global;
@@ -14,8 +15,19 @@ use xb_command::{
     Answer, Call, DONE, Files, Given, NOTHING, Program, Source, Words, Work, file_source,
     tell_fault, text_source,
 };
+use xb_text::write_whole;
 
-// Writes what is asked for of a deck, and returns the status of the process.
+// Tells the notes, if there are any, and returns the status of the process.
+fn tell_notes<E: Write>(alloc: Global, err: &mut E, program: &str, notes: &str) -> u8
+    ensures { TellsNotes program.now notes.now (E.contents err.old) (E.contents err.new) result }
+{
+    if notes.is_empty() || write_whole(err, notes.as_bytes()).is_ok() {
+        return DONE;
+    }
+    tell_fault(alloc, err, program, HearFault::Tell)
+}
+
+// Writes what is asked for of a deck, tells the notes, and returns the status of the process.
 fn answer<R: Read, W: Write, E: Write>(
     alloc: Global,
     request: Request,
@@ -29,7 +41,7 @@ fn answer<R: Read, W: Write, E: Write>(
         (streams (R.remaining deck.new) (W.contents out.new) (E.contents err.new)) result }
 {
     match hear(alloc, request, deck, out) {
-        Ok(()) => DONE,
+        Ok(notes) => tell_notes(alloc, err, program.name, &notes),
         Err(fault) => tell_fault(alloc, err, program.name, fault),
     }
 }

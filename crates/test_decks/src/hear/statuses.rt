@@ -3,8 +3,8 @@ use crate::hear::reports::{CALL, DECK, SHORT};
 use std::alloc::Global;
 use std::test::Fail;
 use test_kit::{
-    Fault, Folder, Program, Refusal, Streams, attended, check_faults, check_reads, check_refusals,
-    check_writes,
+    Fault, Folder, Gives, Program, Refusal, Streams, attended, check_faults, check_reads,
+    check_refusals, check_status, check_writes,
 };
 use xb_command::{Call, attend};
 use xb_hear::{Asked, PROGRAM};
@@ -165,6 +165,39 @@ const REFUSED: &[Refusal] = &[
         b"mfhear: there is one word too many, 'other'; mfhear --help says more\n",
     ),
 ];
+
+// A 2 is dialled three times, and the makes and breaks are exchanged; line 8 has an open loop.
+const EXCHANGED: &[u8] = b"---\nline,state,ms\n7,B,500\n7,M,60\n7,B,40\n7,M,60\n7,B,600\n\
+7,M,60\n7,B,40\n7,M,60\n7,B,600\n7,M,60\n7,B,40\n7,M,60\n7,B,600\n8,B,900\n";
+
+const HEARD: &[u8] =
+    b"limits in ms: break 20 to 119, make from 15, pause from 180, release from 300, time-out from 20000
+
+line 0007, attempt 1 from 0.500 s, record 2: REFUSED ABANDONED 0
+  pulses that no pause ended: 1, from 0.560 s, record 3
+  hung up for 600 ms at 0.660 s, record 5
+
+line 0007, attempt 2 from 1.260 s, record 6: REFUSED ABANDONED 0
+  pulses that no pause ended: 1, from 1.320 s, record 7
+  hung up for 600 ms at 1.420 s, record 9
+
+line 0007, attempt 3 from 2.020 s, record 10: REFUSED ABANDONED 0
+  pulses that no pause ended: 1, from 2.080 s, record 11
+  hung up for 600 ms at 2.180 s, record 13
+";
+
+#[test]
+fn names_a_line_that_looks_exchanged(rt: HostRuntime) -> Result<(), Fail> {
+    let wanted = Gives {
+        status: 0,
+        written: HEARD,
+        line: b"line 7: its M and B look exchanged, since only then a number is dialled on it; see --inverted\n",
+    };
+    for words in [[].as_slice(), &["--line", "7"]] {
+        check_status(rt.alloc(), &Mfhear, words, EXCHANGED, wanted)?;
+    }
+    Ok(())
+}
 
 #[test]
 fn tells_statuses(rt: HostRuntime) -> Result<(), Fail> {
