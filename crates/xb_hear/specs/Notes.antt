@@ -1,5 +1,5 @@
 -- What is noted of lines whose makes and breaks look exchanged.
-use Rattle.std.specs.Prelude.{ℕ, zero, suc, ◌++◌, ◌==◌, ◌&&◌, List, [], Bool, true, codes, decimal, if◌then◌else◌}
+use Rattle.std.specs.Prelude.{ℕ, zero, suc, ◌++◌, ◌==◌, ◌||◌, List, [], Bool, true, codes, decimal, not, if◌then◌else◌}
 use Rattle.xb_model.specs.declared.limits.Limits.{Limits}
 use Rattle.xb_model.specs.declared.line.TheConstants.{LINES}
 use Rattle.xb_model.specs.Rows.{LoopRow}
@@ -14,12 +14,14 @@ is_asked (request.Line own asked) line = own == line
 is_asked (request.Picture own attempt) line = own == line
 
 -- of a line that is asked for, where its makes and breaks look exchanged
+abbrev pub exchanged_line : ℕ → List ℕ
+exchanged_line line =
+    codes "line " ++ decimal line
+    ++ codes ": its M and B look exchanged, since only then a number is dialled on it; see --inverted\n"
+
 abbrev pub line_note : Request → Told → ℕ → List ℕ
 line_note asked told line =
-    if is_asked asked line && told.is_exchanged
-    then codes "line " ++ decimal line
-    ++ codes ": its M and B look exchanged, since only then a number is dialled on it; see --inverted\n"
-    else []
+    if not (is_asked asked line) || not told.is_exchanged then [] else exchanged_line line
 
 -- of the lines below n, ascending
 unfoldable pub notes_below : Request → OfLines → ℕ → List ℕ

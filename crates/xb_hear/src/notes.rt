@@ -1,6 +1,6 @@
 // What is noted of lines whose makes and breaks look exchanged.
 ghost use Rattle.std.specs.Prelude.{◌≡◌, ◌<◌, ◌^◌, ◌++◌, IfOk, OnOk, length, string_bytes};
-ghost use Rattle.xb_hear.specs.Notes.{is_asked, line_note, notes_of};
+ghost use Rattle.xb_hear.specs.Notes.{exchanged_line, is_asked, line_note, notes_of};
 
 use crate::request::Request;
 use std::alloc::{AllocError, Global};
@@ -17,6 +17,16 @@ fn is_asked(request: Request, line: u16) -> bool
     }
 }
 
+// Adds that the makes and breaks of a line look exchanged.
+fn say_exchanged(notes: &mut String, line: u16) -> Result<(), AllocError>
+    ensures { OnOk result (string_bytes notes.new ≡ string_bytes notes.old ++ exchanged_line line) }
+{
+    write!(
+        notes,
+        "line {line}: its M and B look exchanged, since only then a number is dialled on it; see --inverted\n"
+    )
+}
+
 // Adds the note of a line, where it is asked for and its makes and breaks look exchanged.
 fn note_line(notes: &mut String, request: Request, told: Told, line: u16) -> Result<(), AllocError>
     ensures { OnOk result
@@ -25,10 +35,7 @@ fn note_line(notes: &mut String, request: Request, told: Told, line: u16) -> Res
     if !is_asked(request, line) || !told.is_exchanged {
         return Ok(());
     }
-    write!(
-        notes,
-        "line {line}: its M and B look exchanged, since only then a number is dialled on it; see --inverted\n"
-    )
+    say_exchanged(notes, line)
 }
 
 /// The notes of the lines that are asked for, as `mfcheck` judges them. `Err` says that memory ran out.
