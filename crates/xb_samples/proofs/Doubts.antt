@@ -1,5 +1,5 @@
 -- A wire is doubtful after a spike to its level, and where half of the threshold hears the other one.
-use Rattle.std.proofs.Common.{◌≡◌, ℕ, zero, suc, ◌+◌, ◌-◌, ◌^◌, ◌<◌, ℤ, neg_ℤ, int_le, List, [], ◌∷◌, ◌++◌, Bool, true, false, Option, Some, None, cond, length, min, nat_lt, refl, ap, sym, subst, ◌∙◌, arith}
+use Rattle.std.proofs.Common.{◌≡◌, ℕ, suc, ◌+◌, ◌-◌, ◌^◌, ◌<◌, ℤ, neg_ℤ, int_le, List, [], ◌∷◌, ◌++◌, Bool, true, false, Option, Some, None, cond, length, min, nat_lt, refl, ap, sym, subst, ◌∙◌, arith}
 use Rattle.std.proofs.lemmas.Bool.{lt-ltb}
 use Rattle.std.specs.List.{AllByRecursion}
 use Rattle.std.specs.Prelude.{is_some, ◌&&◌, ◌||◌}
