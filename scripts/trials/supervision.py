@@ -1,10 +1,12 @@
 """A trunk in time: seeded calls as changes of its leads, the calls that an observer reads of changes, and sound in which
 2,600 Hz stands for the leads. From the definitions in docs/DEFINITIONS.md alone.
 
-usage: supervision.py rows|story|sound [--seed S] [--calls N] [--start wink|delay|immediate] [--noise N]
+usage: supervision.py rows|story|sound [--seed S] [--calls N] [--start wink|delay|immediate] [--least MS] [--noise N]
+           [--weaker DB]
 
 `rows` prints the rows of both leads, M as line 7 and E as line 8, in the order in which they end; `story` an object for
-each call; `sound` writes two channels of 8,000 samples a second, of 16 bits: what is sent on M, and what comes on E.
+each call; `sound` writes two channels of 8,000 samples a second, of 16 bits: what is sent on M, and what comes on E. No
+lead says the same for less than --least ms.
 """
 import argparse
 import json
@@ -23,14 +25,14 @@ def other(lead):
     return "E" if lead == "M" else "M"
 
 
-def call_of(dice, start, calling, at):
+def call_of(dice, start, calling, at, shortest):
     """The changes of one call that begins at a moment: (lead, off-hook, ms)."""
     called, changes = other(calling), [(calling, True, at)]
     end = at
 
     def turn(lead, off, least, most):
         nonlocal end
-        end += dice.randint(least, most)
+        end += max(shortest, dice.randint(least, most))
         changes.append((lead, off, end))
 
     if start != "immediate" and dice.random() < 0.9:
@@ -54,11 +56,11 @@ def call_of(dice, start, calling, at):
     return changes, max(end, last + DISCONNECT)
 
 
-def changes_of(dice, start, calls):
+def changes_of(dice, start, calls, shortest):
     """The changes of seeded calls, and some that say what their lead said before."""
     made, at = [], dice.randint(0, 3000)
     for _ in range(calls):
-        changes, free = call_of(dice, start, dice.choice("MMME"), at)
+        changes, free = call_of(dice, start, dice.choice("MMME"), at, shortest)
         made += changes
         at = free + dice.choice([0, 1, dice.randint(0, 3000)])
     repeated = []
@@ -151,7 +153,7 @@ def rows_of(changes, until):
     return [f"{line},{state},{ms}" for _, line, state, ms in sorted(rows)]
 
 
-def sound_of(dice, changes, until, noise):
+def sound_of(dice, changes, until, noise, weaker):
     """Samples of both directions: the tone while a lead is on-hook, loud at first, and noise."""
     channels = []
     for lead in "ME":
@@ -160,7 +162,7 @@ def sound_of(dice, changes, until, noise):
             phase, hz = dice.random() * 2 * math.pi, 2600 + dice.randint(-5, 5)
             for n in range(begin * 8, 0 if off else to * 8):
                 level = -8 if begin and n < (begin + LOUD) * 8 else -20
-                samples[n] = round(AMPLITUDE[level] * math.sin(phase + 2 * math.pi * hz * n / 8000))
+                samples[n] = round(AMPLITUDE[level] * 10 ** (-weaker / 20) * math.sin(phase + 2 * math.pi * hz * n / 8000))
         channels.append(samples)
     both = array("h")
     for pair in zip(*channels):
@@ -174,10 +176,12 @@ def main():
     words.add_argument("--seed", type=int, default=1)
     words.add_argument("--calls", type=int, default=10)
     words.add_argument("--start", choices=["wink", "delay", "immediate"], default="wink")
+    words.add_argument("--least", type=int, default=0)
     words.add_argument("--noise", type=int, default=0)
+    words.add_argument("--weaker", type=float, default=0)
     asked = words.parse_args()
     dice = random.Random(asked.seed)
-    changes = changes_of(dice, asked.start, asked.calls)
+    changes = changes_of(dice, asked.start, asked.calls, asked.least)
     until = max((ms for _, _, ms in changes), default=0) + 1000
     if asked.what == "rows":
         print("line,state,ms", *rows_of(changes, until), sep="\n")
@@ -185,7 +189,7 @@ def main():
         for call in story_of(asked.start, changes):
             print(json.dumps(call))
     else:
-        sys.stdout.buffer.write(sound_of(dice, changes, until, asked.noise).tobytes())
+        sys.stdout.buffer.write(sound_of(dice, changes, until, asked.noise, asked.weaker).tobytes())
 
 
 main()

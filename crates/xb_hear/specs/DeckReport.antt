@@ -10,14 +10,22 @@ use Rattle.xb_deck.specs.declared.fault.DeckFault.TheVariants as deck_fault
 use Rattle.xb_deck.specs.Contents.{Contents, contents_of}
 use Rattle.xb_text.specs.Writing.{AppendsBeginning}
 use Rattle.xb_picture.specs.Drawing.{IsPicture}
+use Rattle.xb_watch.specs.declared.reports.CallForm.{CallForm}
+use Rattle.xb_watch.specs.Leads.{changes_of}
+use Rattle.xb_watch.specs.Reports.{report_of}
 use Rattle.xb_hear.specs.declared.fault.HearFault.{HearFault}
 use Rattle.xb_hear.specs.declared.fault.HearFault.TheVariants as fault
+use Rattle.xb_hear.specs.declared.request.Leads.{Leads}
 use Rattle.xb_hear.specs.declared.request.Request.{Request}
 use Rattle.xb_hear.specs.declared.request.Request.TheVariants as request
 use Rattle.xb_hear.specs.Choosing.{is_chosen_other, is_chosen_refused}
 use Rattle.xb_hear.specs.LineAttempts.{AgreesWithPage, attempts_of_line, lines_with}
 use Rattle.xb_hear.specs.Places.{before_records}
 use Rattle.xb_hear.specs.ToldLines.{AreTold, IsTold, IsWhole, list_of}
+
+-- the calls of the trunk of these leads, of which no keying is known
+abbrev pub calls_text : Leads → CallForm → List LoopRow → List ℕ
+calls_text leads form rows = report_of form leads.start [] (changes_of leads.m leads.e rows)
 
 -- a text is what is asked for of rows, where so many text lines may stand before the first record
 abbrev pub IsAsked : Request → Option ℕ → Plan → Limits → List LoopRow → List ℕ → Type 0
@@ -29,6 +37,7 @@ IsAsked (request.Line line asked) before plan limits rows text =
     IsWhole asked limits [] (IsTold asked before limits line (attempts_of_line plan limits rows line)) text
 IsAsked (request.Picture line attempt) before plan limits rows text =
     IsPicture limits line attempt (attempts_of_line plan limits rows line) text
+IsAsked (request.Calls leads form) before plan limits rows text = text ≡ calls_text leads form rows
 
 -- whether there is the attempt that is to be drawn among so many
 abbrev pub found_among : Option ℕ → ℕ → Result (Unit {0}) HearFault
@@ -47,6 +56,7 @@ found (request.Line line asked) plan limits rows =
     found_on_line line None (length (attempts_of_line plan limits rows line))
 found (request.Picture line attempt) plan limits rows =
     found_on_line line attempt (length (attempts_of_line plan limits rows line))
+found (request.Calls leads form) plan limits rows = Ok tt
 
 -- a read failed, memory ran out, or it is the fault that is said
 abbrev pub IsFaultOf : {A : Type 0} → Result A HearFault → HearFault → Type 0

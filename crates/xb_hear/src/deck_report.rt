@@ -1,9 +1,9 @@
 // From a deck on a reader to its report, page or picture on a writer.
-ghost use Rattle.std.specs.Prelude.{◌≡◌, ◌≤◌, ◌<◌, ◌^◌, Err, IfErr, IfOk, Some, length};
+ghost use Rattle.std.specs.Prelude.{◌≡◌, ◌≤◌, ◌<◌, ◌^◌, Err, IfErr, IfOk, Some, length, string_bytes};
 ghost use Rattle.xb_deck.specs.declared.deck.TheConstants.{MOST_DECK_BYTES};
 ghost use Rattle.xb_deck.specs.Contents.{IsRowsFault, contents_of, contents_of_parts, with_rows};
 ghost use Rattle.xb_deck.specs.Deck.{deck_parts, parts_of_deck};
-ghost use Rattle.xb_hear.specs.DeckReport.{Delivers, Gives, Reports, and_asked, says};
+ghost use Rattle.xb_hear.specs.DeckReport.{Delivers, Gives, Reports, and_asked, calls_text, says};
 ghost use Rattle.xb_hear.specs.Places.{before_records, lines_before};
 ghost use Rattle.xb_rows.specs.RowResults.{AreRowsOf};
 ghost use Rattle.xb_rows.specs.RowTexts.{fault_of_text, rows_of_text};
@@ -14,14 +14,29 @@ use crate::line::{picture_of_line, text_of_line};
 use crate::line_page::Manner;
 use crate::lines::text_of_lines;
 use crate::record_lines::lines_before;
-use crate::request::Request;
-use std::alloc::Global;
+use crate::request::{Leads, Request};
+use std::alloc::{AllocError, Global};
 use std::io::{Read, Write};
 use xb_deck::{Deck, DeckFault, read_deck};
 use xb_model::{Limits, Plan, Row};
 use xb_routes::RouteTable;
 use xb_rows::rows_of_text;
 use xb_text::write_whole;
+use xb_watch::{CallForm, changes_of, report_of};
+
+// The calls of the trunk of these leads, of which no keying is known.
+fn text_of_calls(
+    alloc: Global,
+    leads: Leads,
+    form: CallForm,
+    rows: &[Row],
+) -> Result<String, AllocError>
+    requires { length rows.now < 2 ^ 32 }
+    ensures { IfOk result (λ text. string_bytes text ≡ calls_text leads form rows.now) }
+{
+    let changes = changes_of(alloc, leads.m, leads.e, rows)?;
+    report_of(alloc, form, leads.start, &[], &changes)
+}
 
 // What is asked for of rows, by this plan and these limits.
 fn text_of(
@@ -55,6 +70,7 @@ fn text_of(
         Request::Picture(line, attempt) => picture_of_line(
             alloc, line, attempt, plan, limits, rows,
         ),
+        Request::Calls(leads, form) => Ok(text_of_calls(alloc, leads, form, rows)?),
     }
 }
 

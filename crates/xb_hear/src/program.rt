@@ -7,12 +7,12 @@ ghost use Rattle.xb_hear.specs.Program.{HasFault, IsOfRecording, WritesReport, b
 
 use crate::deck_report::hear;
 use crate::request::{Asked, Recording, Request};
-use crate::words::{Options, options_of, request_of};
+use crate::words::{Options, misfit_of, options_of, request_of};
 use std::alloc::Global;
 use std::io::{Read, Write};
 use xb_command::{
-    Answer, Call, DONE, Files, Given, NOTHING, Program, Source, Words, Work, file_source,
-    tell_fault, text_source,
+    Answer, Call, DONE, Files, Given, Program, Source, Words, Work, file_source, tell_fault,
+    text_source,
 };
 
 // Writes what is asked for of a deck, and returns the status of the process.
@@ -72,7 +72,7 @@ impl<'a, P: Work<'a>> Work<'a> for Asked<'a, P> {
     fn ask(alloc: Global, call: &Call<'a>, words: &Words<'a>) -> Result<Asked<'a, P>, Answer<'a>> {
         let options = options_of(words);
         let Some(request) = request_of(options) else {
-            return Err(Answer::Unfit(NOTHING));
+            return Err(Answer::Unfit(misfit_of(words)));
         };
         match recording_of(alloc, call, words, options) {
             Ok(recording) => Ok(Asked {

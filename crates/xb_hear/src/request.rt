@@ -1,6 +1,8 @@
 // What is asked for of a deck.
 
 use xb_model::LineNo;
+use xb_supervision::Start;
+use xb_watch::CallForm;
 
 /// Which of the lines that have attempts.
 #[derive(Clone, Copy, Debug, PartialEq, Eq)]
@@ -22,6 +24,17 @@ pub enum ReportForm {
     Json,
 }
 
+/// The lines that are the leads of a trunk, and how its called end says that it is ready.
+#[derive(Clone, Copy, Debug, PartialEq, Eq)]
+pub struct Leads {
+    /// What this office sends.
+    pub m: LineNo,
+    /// What the far office sends.
+    pub e: LineNo,
+    /// How the called end starts.
+    pub start: Start,
+}
+
 /// What is to be written of a deck.
 #[derive(Clone, Copy, Debug, PartialEq, Eq)]
 pub enum Request {
@@ -31,6 +44,8 @@ pub enum Request {
     Line(LineNo, ReportForm),
     /// The picture of a line: of its attempt of this number, from 1, or of the first ones.
     Picture(LineNo, Option<u32>),
+    /// The calls of the trunk of these leads.
+    Calls(Leads, CallForm),
 }
 
 /// A recording in place of a deck, whose rows a `P` prints.

@@ -1,5 +1,5 @@
 // Why a keying that was heard may be another one.
-ghost use Rattle.std.specs.Prelude.{◌≡◌, ◌++◌, None, IfOk, OnOk};
+ghost use Rattle.std.specs.Prelude.{◌≡◌, ◌++◌, None, IfOk, OnOk, length};
 ghost use Rattle.xb_measured.specs.Doubts.{doubt, doubts_after, doubts_of, gap_doubts, gap_doubts_by, length_doubts, length_doubts_by, listed_doubt, short_effect};
 
 use crate::figures::{Figures, figures_of};
@@ -152,4 +152,12 @@ pub(crate) fn doubts_of(alloc: Global, keys: &[NamedKey]) -> Result<Vec<Doubt>, 
 {
     let rhythm = rhythm_of(alloc, keys)?;
     doubts_by(alloc, rhythm, keys)
+}
+
+/// How many doubts there are of a keying. `Err` says that memory ran out.
+pub fn doubt_count(alloc: Global, keys: &[NamedKey]) -> Result<u64, AllocError>
+    ensures { IfOk result (λ count. count ≡ length (doubts_of keys.now)) }
+{
+    let doubts = doubts_of(alloc, keys)?;
+    Ok(doubts.len() as u64)
 }

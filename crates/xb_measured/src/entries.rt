@@ -81,8 +81,8 @@ fn doubts_array(alloc: Global, doubts: &[Doubt]) -> Result<Value, AllocError>
     Ok(Value::from(values))
 }
 
-// The digits of keys.
-fn digits_in(alloc: Global, keys: &[NamedKey]) -> Result<Vec<Digit>, AllocError>
+/// The digits of keys. `Err` says that memory ran out.
+pub fn digits_in(alloc: Global, keys: &[NamedKey]) -> Result<Vec<Digit>, AllocError>
     ensures { IfOk result (λ digits. digits.items ≡ digits_in keys.now) }
 {
     let mut digits = Vec::new(alloc);

@@ -28,7 +28,7 @@
 //! - `doubts_text`: a line where a key or a gap does not keep to that (`doubts_of`), with what may be wrong by it: one key
 //!   may be missing where a gap or a key is too long, one digit too many where either is too short, and an ST that is too
 //!   short may be cut.
-//! - `began_ms` and `ended_ms`: when a keying begins and ends.
+//! - `began_ms` and `ended_ms`: when a keying begins and ends; `digits_in`: its digits; `doubt_count`: how many doubts.
 //! - `entry_object`: exactly the object of a keying as an entry, with its place in the sound, its digits and its
 //!   doubts.
 //!
@@ -70,7 +70,8 @@ mod wave_sums;
 pub use button_line::buttons_line;
 pub use buttons::Buttons;
 pub use doubt_lines::{began_ms, doubts_text};
-pub use entries::{ended_ms, entry_object};
+pub use doubts::doubt_count;
+pub use entries::{digits_in, ended_ms, entry_object};
 pub use figures::{Figures, figures_of};
 pub use heard::{Heard, MeasuredTone, Onsets};
 pub use key_line::text_line;

@@ -25,3 +25,5 @@ pub mod Compared
 pub mod Formed
 pub mod Unlike
 pub mod DifferenceSteps
+pub mod TrunkSounds
+pub mod TrunkKeys

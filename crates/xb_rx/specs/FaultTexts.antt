@@ -12,6 +12,8 @@ use Rattle.xb_rx.specs.declared.keyed_pages.CompareFault.{CompareFault}
 use Rattle.xb_rx.specs.declared.keyed_pages.CompareFault.TheVariants as compare
 use Rattle.xb_rx.specs.declared.comparing.CompareProgramFault.{CompareProgramFault}
 use Rattle.xb_rx.specs.declared.comparing.CompareProgramFault.TheVariants as difference
+use Rattle.xb_rx.specs.declared.trunk_fault.TrunkFault.{TrunkFault}
+use Rattle.xb_rx.specs.declared.trunk_fault.TrunkFault.TheVariants as trunk
 
 -- of a WAV file
 abbrev pub wav_text : WavFault → List ℕ
@@ -51,3 +53,13 @@ difference_text (difference.Sound fault) = Some (rx_text fault)
 difference_text difference.NoMemory = Some (codes "out of memory")
 difference_text difference.Write = Some (codes "the differences could not be written")
 difference_text difference.Differ = Some (codes "what was keyed is not what is heard")
+
+-- of the calls on a trunk, which are not told
+abbrev pub trunk_text : TrunkFault → List ℕ
+trunk_text (trunk.Sound fault) = rx_text fault
+trunk_text trunk.TooLong =
+    codes "the sound is longer than 2147483647 bytes: sox IN.wav -r 8000 OUT.wav"
+trunk_text trunk.OneChannel =
+    codes "the sound has one channel, and a trunk has one for each direction: sox -M M.wav E.wav BOTH.wav"
+trunk_text trunk.NoMemory = codes "out of memory"
+trunk_text trunk.Write = codes "the calls could not be written"

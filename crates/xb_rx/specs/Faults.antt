@@ -2,6 +2,8 @@
 use Rattle.std.specs.Prelude.{Option, Result, Ok, Err}
 use Rattle.jiff_core.specs.declared.timestamp.Timestamp.{Timestamp}
 use Rattle.xb_clock.specs.Clocks.{IsLateAt}
+use Rattle.xb_text.specs.declared.reading.ReadFault.{ReadFault}
+use Rattle.xb_text.specs.declared.reading.ReadFault.TheVariants as read_fault
 use Rattle.xb_rx.specs.declared.fault.RxFault.{RxFault}
 use Rattle.xb_rx.specs.declared.fault.RxFault.TheVariants as fault
 use Rattle.xb_rx.specs.declared.page.PageFault.{PageFault}
@@ -12,6 +14,8 @@ use Rattle.xb_rx.specs.declared.source.StreamFault.{StreamFault}
 use Rattle.xb_rx.specs.declared.timed.ReportFault.{ReportFault}
 use Rattle.xb_rx.specs.declared.timed.ReportFault.TheVariants as report_fault
 use Rattle.xb_rx.specs.declared.source.StreamFault.TheVariants as stream_fault
+use Rattle.xb_rx.specs.declared.trunk_fault.TrunkFault.{TrunkFault}
+use Rattle.xb_rx.specs.declared.trunk_fault.TrunkFault.TheVariants as trunk
 use Rattle.xb_rx.specs.declared.wav_start.OpenFault.{OpenFault}
 use Rattle.xb_rx.specs.declared.wav_start.OpenFault.TheVariants as open_fault
 
@@ -42,3 +46,9 @@ reported_page (Err f) = Err (report_fault.Page f)
 abbrev pub IsLateFault : Option Timestamp → ReportFault → Type 0
 IsLateFault since (report_fault.Page f) = Unit {0}
 IsLateFault since (report_fault.Late ms) = IsLateAt since ms
+
+-- the same of the calls on a trunk
+abbrev pub trunk_of_read : ReadFault → TrunkFault
+trunk_of_read read_fault.Failed = trunk.Sound fault.Read
+trunk_of_read read_fault.TooLong = trunk.TooLong
+trunk_of_read read_fault.NoMemory = trunk.NoMemory

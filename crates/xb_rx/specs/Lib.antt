@@ -8,6 +8,7 @@ pub mod Starts
 pub mod Weights
 pub mod Faults
 pub mod Begun
+pub mod Trunks
 pub mod Placed
 pub mod Pages
 pub mod Timed

@@ -16,12 +16,15 @@ use Rattle.xb_rx.specs.declared.request.Asked.{Asked}
 use Rattle.xb_rx.specs.declared.request.Input.{Input}
 use Rattle.xb_rx.specs.declared.request.Input.TheVariants as input
 use Rattle.xb_rx.specs.declared.request.Request.{Request}
+use Rattle.xb_rx.specs.declared.request.TrunkCalls.{TrunkCalls}
 use Rattle.xb_rx.specs.declared.request.Written.{Written}
 use Rattle.xb_rx.specs.declared.request.Written.TheVariants as written
 use Rattle.xb_rx.specs.declared.words.Options.{Options}
 use Rattle.xb_rx.specs.declared.coding.SampleForm.{SampleForm}
 use Rattle.xb_rx.specs.declared.coding.TheConstants.{MOST_CHANNELS}
 use Rattle.xb_rx.specs.Starts.{form_with, frames_of}
+use Rattle.xb_watch.specs.declared.reports.CallForm.TheVariants as call_form
+use Rattle.xb_watch.specs.Words.{start_of}
 
 -- the sound is samples alone where a form of these is named
 abbrev pub is_raw : Option Text → Bool
@@ -48,6 +51,8 @@ pub record Say (rows : List Row) (options : Options) : Type 0 where
   pub rate : ReadsNumber (given_by rows (codes "rate")) options.rate
   pub ulaw : options.ulaw ≡ is_mu_law (first_of (codes "format") rows)
   pub channels : ReadsNumber (given_by rows (codes "channels")) options.channels
+  pub sf : ReadsFlag (given_by rows (codes "sf")) options.sf
+  pub start : options.start ≡ start_of (first_of (codes "start") rows)
 
 -- a number below this, or 0 where none is given
 abbrev pub below : ℕ → Option ℕ → Option ℕ
@@ -136,6 +141,13 @@ is_plain options = not (options.html || options.svg || says_told options)
 abbrev pub request_by : Options → Option Request
 request_by options = if is_some options.against && not (is_plain options) then None else request_of options
 
+-- the calls on a trunk are told where its leads are tones in the sound
+abbrev pub trunk_calls : Options → Option TrunkCalls
+trunk_calls options =
+    if options.sf
+    then Some (record { form = if options.json then call_form.Objects else call_form.Text; start = options.start })
+    else None
+
 -- how the sound is given, and what is written of it
 abbrev pub asked_request : Asked → Request
 asked_request asked = record { written = asked.written; since = asked.since; input = asked.input }
@@ -147,6 +159,7 @@ pub record SayAsked (rows : List Row) (asked : Asked) : Type 0 where
   pub sound : asked.sound ≡ options.sound
   pub request : request_by options ≡ Some (asked_request asked)
   pub against : asked.against ≡ options.against
+  pub calls : asked.calls ≡ trunk_calls options
 
 -- what clap matched says options that ask for nothing
 abbrev pub AskNothing : List Row → Type 0

@@ -1,5 +1,6 @@
 -- What the program does.
 use Rattle.std.specs.Prelude.{ℕ, List, None, Option, Some, Err, Ok}
+use Rattle.std.specs.Io.KnownBytes.{Keeps}
 use Rattle.std.specs.Borrow.{Bor}
 use Rattle.clap.specs.Walk.{Text}
 use Rattle.xb_command.specs.Files.{Bytes}
@@ -11,10 +12,14 @@ use Rattle.xb_rx.specs.declared.request.Asked.{Asked}
 use Rattle.xb_rx.specs.declared.fault.RxFault.{RxFault}
 use Rattle.xb_rx.specs.declared.comparing.CompareProgramFault.{CompareProgramFault}
 use Rattle.xb_rx.specs.declared.request.Request.{Request}
+use Rattle.xb_rx.specs.declared.request.Input.{Input}
+use Rattle.xb_rx.specs.declared.request.TrunkCalls.{TrunkCalls}
+use Rattle.xb_rx.specs.declared.trunk_fault.TrunkFault.{TrunkFault}
 use Rattle.xb_rx.specs.Comparing.{Compares}
 use Rattle.xb_rx.specs.Hearing.{DeliversTimed, outputs}
 use Rattle.xb_rx.specs.Options.{Asks, AsksNothing, asked_request}
-use Rattle.xb_rx.specs.FaultTexts.{difference_text, rx_text}
+use Rattle.xb_rx.specs.FaultTexts.{difference_text, rx_text, trunk_text}
+use Rattle.xb_rx.specs.Trunks.{TellsTrunk}
 
 -- what was asked for was done: the page of the sound was written, or its keys, or no difference was found
 abbrev pub IsDone : Bytes → Request → Option (Bor Text) → Streams → Streams → Type 0
@@ -39,12 +44,32 @@ pub record HasFault (request : Request) (against : Option (Bor Text)) (program :
   pub told : Option (List ℕ)
   pub had : HadFault program.name.now bytes request against old new told
 
+-- the calls on a trunk were told
+pub record ToldCalls (calls : TrunkCalls) (how : Input) (old new : Streams) : Type 0 where
+  pub told : TellsTrunk calls how old.input (Ok tt) old.output new.output
+  pub quiet : Keeps old.errors new.errors
+
+-- there was a fault, and a line says so
+pub record ToldFault (calls : TrunkCalls) (how : Input) (program : Program) (old new : Streams) : Type 0 where
+  pub fault : TrunkFault
+  pub told : TellsTrunk calls how old.input (Err fault) old.output new.output
+  pub line : Tells program.name.now (Some (trunk_text fault)) old.errors new.errors
+
+-- what is done of a sound, where the calls on a trunk are told, or else its keys
+abbrev pub IsDoneBy : Option TrunkCalls → Asked → Bytes → Streams → Streams → Type 0
+IsDoneBy None asked bytes old new = IsDone bytes (asked_request asked) asked.against old new
+IsDoneBy (Some calls) asked bytes old new = ToldCalls calls asked.input old new
+
+abbrev pub HasFaultBy : Option TrunkCalls → Asked → Program → Bytes → Streams → Streams → Type 0
+HasFaultBy None asked program bytes old new = HasFault (asked_request asked) asked.against program bytes old new
+HasFaultBy (Some calls) asked program bytes old new = ToldFault calls asked.input program old new
+
 -- what the words ask for, what is read, and what is done
 abbrev pub by_rx : Rules Asked
 by_rx = record {
   Asks = Asks;
   Misfits = λ call misfit. AsksNothing call;
   source = λ asked. file_source asked.sound;
-  Done = λ asked program bytes old new. IsDone bytes (asked_request asked) asked.against old new;
-  Fails = λ asked program bytes old new. HasFault (asked_request asked) asked.against program bytes old new;
+  Done = λ asked program bytes old new. IsDoneBy asked.calls asked bytes old new;
+  Fails = λ asked program bytes old new. HasFaultBy asked.calls asked program bytes old new;
 }

@@ -14,6 +14,9 @@
 //! - `compare`: on `Ok` the keyings that are heard are those that a page has keyed. On `Differ` the output is
 //!   exactly the differences (`differences`). Another fault says why they are not known, and no difference
 //!   was written. Each keying is compared as it ends (`Page::against`), and is not kept.
+//! - `tell_trunk`: on `Ok` the output is exactly what is told of the calls on a trunk (`report_of` of `xb_watch`), whose
+//!   leads are a tone of 2,600 Hz in each of two channels, with the keyings in both. A sound of one channel is refused,
+//!   and on any fault but `Write` nothing was written.
 //! - `laws::keyed_is_paged`: the page of a sound of keyings, even of a disturbed one, has an entry for each,
 //!   in order.
 //! - `laws::heard_is_paged`: the keyings that are compared are the keyed entries of the page that is written
@@ -73,6 +76,9 @@ mod request;
 mod source;
 mod tail;
 mod timed;
+mod trunk_fault;
+mod trunk_keys;
+mod trunk_sound;
 mod wav_start;
 mod weights;
 mod words;
@@ -86,8 +92,10 @@ pub use keyed::{Keyed, keyed_entries};
 pub use keyed_pages::{CompareFault, keyed_of_page};
 pub use other_form::OtherForm;
 pub use receiving::receive;
-pub use request::{Asked, Input, Request, Written};
+pub use request::{Asked, Input, Request, TrunkCalls, Written};
 pub use source::{Source, StreamFault};
+pub use trunk_fault::{MOST_SOUND_BYTES, TrunkFault};
+pub use trunk_sound::tell_trunk;
 pub use wav_start::{OpenFault, Start, UNKNOWN_SAMPLES, WavFault, frames_of, open_wav};
 pub use words::PROGRAM;
 pub use xb_riff::{Coding, HeadFault};

@@ -2,11 +2,12 @@
 ghost use Rattle.xb_command.specs.Programs.{streams};
 ghost use Rattle.xb_command.specs.Works.{Runs};
 ghost use Rattle.xb_rx.specs.Hearing.{HasForm};
-ghost use Rattle.xb_rx.specs.Program.{HasFault, IsDone, by_rx};
+ghost use Rattle.xb_rx.specs.Program.{HasFault, IsDone, ToldCalls, ToldFault, by_rx};
 
 use crate::comparing::compare;
 use crate::receiving::receive;
-use crate::request::{Asked, Request};
+use crate::request::{Asked, Input, Request, TrunkCalls};
+use crate::trunk_sound::tell_trunk;
 use crate::words::asked_of;
 use std::alloc::Global;
 use std::io::{Read, Write};
@@ -43,6 +44,27 @@ fn answer<F: Files, R: Read, W: Write, E: Write>(
     }
 }
 
+// Tells the calls on a trunk, and returns the status of the process.
+fn answer_calls<R: Read, W: Write, E: Write>(
+    alloc: Global,
+    calls: TrunkCalls,
+    input: Input,
+    program: &Program<'_>,
+    sound: &mut R,
+    out: &mut W,
+    err: &mut E,
+) -> u8
+    requires { HasForm input }
+    ensures { Runs (ToldCalls calls input) (ToldFault calls input program.now)
+        (streams (R.remaining sound.old) (W.contents out.old) (E.contents err.old))
+        (streams (R.remaining sound.new) (W.contents out.new) (E.contents err.new)) result }
+{
+    match tell_trunk(alloc, calls, input, sound, out) {
+        Ok(()) => DONE,
+        Err(fault) => tell_fault(alloc, err, program.name, fault),
+    }
+}
+
 impl<'a> Work<'a> for Asked<'a> {
     ghost use Rattle.xb_rx.specs.Program.{by_rx};
 
@@ -69,6 +91,9 @@ impl<'a> Work<'a> for Asked<'a> {
             out,
             err,
         } = given;
+        if let Some(calls) = self.calls {
+            return answer_calls(alloc, calls, self.input, program, input, out, err);
+        }
         let request = Request {
             written: self.written,
             since: self.since,

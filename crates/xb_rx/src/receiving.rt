@@ -46,8 +46,8 @@ fn hear<R: Read, W: Write, E: Write>(
     Ok(())
 }
 
-// What the samples begin with.
-fn start_of<R: Read>(input: Input, reader: &mut R) -> Result<Start, OpenFault>
+/// What the samples begin with.
+pub(crate) fn start_of<R: Read>(input: Input, reader: &mut R) -> Result<Start, OpenFault>
     requires { HasForm input }
     ensures form { IfOk result (λ start. IsForm start.form) }
     ensures most { IfOk result (λ start. start.samples ≤ UNKNOWN_SAMPLES) }

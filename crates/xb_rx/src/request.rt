@@ -4,6 +4,8 @@ ghost use Rattle.xb_rx.specs.Hearing.{HasForm};
 use crate::SampleForm;
 use jiff_core::Timestamp;
 use xb_model::{LineNo, Trunk};
+use xb_supervision::Start;
+use xb_watch::CallForm;
 
 /// How a sound is given.
 #[derive(Clone, Copy, Debug, PartialEq, Eq)]
@@ -40,6 +42,15 @@ pub struct Request {
     pub input: Input,
 }
 
+/// How the calls on a trunk are told whose leads are tones in the sound.
+#[derive(Clone, Copy, Debug, PartialEq, Eq)]
+pub struct TrunkCalls {
+    /// As a text or as objects.
+    pub form: CallForm,
+    /// How the called end says that it is ready.
+    pub start: Start,
+}
+
 /// What the words ask for.
 #[derive(Clone, Copy, Drop)]
 pub struct Asked<'a> {
@@ -53,5 +64,7 @@ pub struct Asked<'a> {
     pub input: Input,
     /// The file of the page that it is compared with, in place of being written down.
     pub against: Option<&'a str>,
+    /// How the calls are told that are heard, in place of being written down.
+    pub calls: Option<TrunkCalls>,
     pub ghost has_form: { ∥ HasForm input ∥₁ },
 }

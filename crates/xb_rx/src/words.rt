@@ -2,14 +2,16 @@
 ghost use Rattle.std.specs.Prelude.{◌≡◌, ◌<◌, ◌≤◌, IfErr, IfOk, IfSome, option_map};
 ghost use Rattle.xb_rx.specs.Hearing.{HasForm};
 ghost use Rattle.xb_rx.specs.Samples.{IsForm};
-ghost use Rattle.xb_rx.specs.Options.{AskNothing, Say, SayAsked, channel_of, channels_of, input_of, is_mu_law, is_plain, is_raw, line_of, raw_coding, raw_form, request_by, request_of, says_told, shown_by, time_of, told_keys, told_of, trunk_of, written_of};
+ghost use Rattle.xb_rx.specs.Options.{AskNothing, Say, SayAsked, channel_of, channels_of, input_of, is_mu_law, is_plain, is_raw, line_of, raw_coding, raw_form, request_by, request_of, says_told, shown_by, time_of, told_keys, told_of, trunk_calls, trunk_of, written_of};
 
-use crate::request::{Asked, Input, Request, Written};
+use crate::request::{Asked, Input, Request, TrunkCalls, Written};
 use crate::{Coding, MOST_CHANNELS, SampleForm, frames_of};
 use jiff_core::Timestamp;
 use xb_clock::{Since, no_time, since_of};
 use xb_command::{FLAG, Misfit, NOTHING, Program, Value, Word, Words};
 use xb_model::{LineNo, TRUNKS, Trunk};
+use xb_supervision::Start;
+use xb_watch::{CallForm, START, start_of};
 
 /// The program and its words.
 pub const PROGRAM: Program<'static> = Program {
@@ -17,12 +19,14 @@ pub const PROGRAM: Program<'static> = Program {
     about: "Hears MF keyings in a sound, and writes their page on standard output, as mfbank would: an entry for each keying,
 from KP to ST, as it ends, and the totals. A key that belongs to no keying is told of on standard error, with its name
 and its time, and so is what is doubtful of an entry. Where no key is heard, a line says how loud the sound is: a tone
-may be below -33 dBm0, or the speed of a tape more than 2 % off.
+may be below -33 dBm0, or the speed of a tape more than 2 % off. Or tells the calls on a trunk of a carrier, each with
+its times and its number.
 
     mfrx seven_digits.wav
     mftone page | mfrx
     mfrx seven_digits.wav --tones
     mfrx seven_digits.wav --html > keyed.html
+    mfrx both_ways.wav --sf
 
 The status is 0 for a page, keys or a picture, 1 for a fault or a difference, 2 where the words are refused, and 141
 where the reader of the output goes away.",
@@ -94,6 +98,17 @@ where the reader of the output goes away.",
             ..FLAG
         },
         Word {
+            name: "sf",
+            not_with: &["tones", "since", "html", "svg", "against", "line", "trunk"],
+            help: "in place of a page the calls on a trunk that signals by 2,600 Hz: the channel that is heard is what
+        this office sends (M), and the next one what it gets (E). While the tone sounds its end is on-hook",
+            ..FLAG
+        },
+        Word {
+            wants: &["sf"],
+            ..START
+        },
+        Word {
             name: "channel",
             value: Value::Number(1, 8),
             shown: "N",
@@ -147,6 +162,8 @@ pub(crate) struct Options<'a> {
     pub(crate) rate: Option<u32>,
     pub(crate) ulaw: bool,
     pub(crate) channels: Option<u32>,
+    pub(crate) sf: bool,
+    pub(crate) start: Start,
 }
 
 // Whether the sound is samples alone, since a form of these is named.
@@ -188,6 +205,8 @@ fn options_of<'a>(words: &Words<'a>) -> Options<'a>
         rate: words.number("rate"),
         ulaw: is_mu_law(words.text("format")),
         channels: words.number("channels"),
+        sf: words.flag("sf"),
+        start: start_of(words.text("start")),
     }
 }
 
@@ -388,6 +407,24 @@ fn request_by(options: Options<'_>) -> Option<Request>
     }
 }
 
+// How the calls on a trunk are told, where they are.
+fn trunk_calls(options: Options<'_>) -> Option<TrunkCalls>
+    ensures { result ≡ trunk_calls options.entry }
+{
+    if !options.sf {
+        return None;
+    }
+    let form = if options.json {
+        CallForm::Objects
+    } else {
+        CallForm::Text
+    };
+    Some(TrunkCalls {
+        form,
+        start: options.start,
+    })
+}
+
 // What is said of a text that an option was given.
 fn misfit_at<'a>(option: &'static str, text: Option<&'a str>, reason: &'static str) -> Misfit<'a> {
     match text {
@@ -421,7 +458,7 @@ fn misfit_of<'a>(words: &Words<'a>, options: Options<'_>) -> Misfit<'a> {
 
 /// What the words ask for: the page of a line, by a trunk group, or a line for each key, or objects, with times of day
 /// or without them, or a page in HTML or a picture, of a WAV file or of samples alone, or that it is compared with a
-/// page.
+/// page, or the calls on a trunk.
 pub(crate) fn asked_of<'a>(words: &Words<'a>) -> Result<Asked<'a>, Misfit<'a>>
     ensures says { IfOk result (λ asked. SayAsked words.now asked) }
     ensures nothing { IfErr result (λ _. AskNothing words.now) }
@@ -434,6 +471,7 @@ pub(crate) fn asked_of<'a>(words: &Words<'a>) -> Result<Asked<'a>, Misfit<'a>>
             since: request.since,
             input: request.input,
             against: options.against,
+            calls: trunk_calls(options),
         }),
         None => Err(misfit_of(words, options)),
     }

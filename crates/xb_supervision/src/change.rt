@@ -42,7 +42,8 @@ impl Lead {
         }
     }
 
-    pub(crate) fn is(self, lead: Lead) -> bool
+    /// Whether it is this one.
+    pub fn is(self, lead: Lead) -> bool
         ensures { result ≡ same_lead self lead }
     {
         match self {

@@ -6,7 +6,7 @@ use Rattle.xb_watch.specs.Worked.{AreAsWorked}
 pub are_as_worked : AreAsWorked
 unfolding digits
 are_as_worked = record {
-  answered = λ keyed kp st doubts sent. rw (kp, st, doubts, sent) refl;
+  answered = refl;
   given_up = refl;
   going_on = refl;
 }

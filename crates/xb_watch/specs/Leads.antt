@@ -1,10 +1,12 @@
--- The changes of two leads, by the rows of the lines that they are.
-use Rattle.std.specs.Prelude.{ℕ, suc, List, [], ◌∷◌, ◌++◌, drop, map, take, if◌then◌else◌, nat_lt}
+-- The changes of two leads: by the rows of the lines that they are, or by a tone in each direction.
+use Rattle.std.specs.Prelude.{ℕ, suc, Bool, List, [], ◌∷◌, ◌++◌, drop, map, take, if◌then◌else◌, nat_lt, ℤ}
 use Rattle.xb_heard.specs.PlacedRuns.{placed_runs}
 use Rattle.xb_heard.specs.declared.run.PlacedRun.{PlacedRun}
 use Rattle.xb_model.specs.declared.row.Contact.{Contact}
 use Rattle.xb_model.specs.declared.row.Contact.TheVariants.{Make, Brk, Close}
 use Rattle.xb_model.specs.Rows.{LoopRow}
+use Rattle.xb_sf.specs.declared.hearing.Turn.{Turn}
+use Rattle.xb_sf.specs.Turns.{turns_of}
 use Rattle.xb_supervision.specs.declared.change.Change.{Change}
 use Rattle.xb_supervision.specs.declared.change.Hook.{Hook}
 use Rattle.xb_supervision.specs.declared.change.Hook.TheVariants.{On, Off}
@@ -39,3 +41,14 @@ in_time (change ∷ changes) others =
 -- the changes of a trunk of which two lines are the leads
 abbrev pub changes_of : ℕ → ℕ → List LoopRow → List Change
 changes_of m e rows = in_time (lead_changes M m rows) (lead_changes E e rows)
+
+-- while the tone of a lead sounds its end is on-hook
+abbrev pub hook_heard : Bool → Hook
+hook_heard sounds = if sounds then On else Off
+
+abbrev pub turn_change : Lead → Turn → Change
+turn_change lead turn = record { lead = lead; hook = hook_heard turn.sounds; at_ms = turn.at_ms }
+
+-- the changes of a trunk whose leads are a tone in each direction, from the samples of both
+abbrev pub changes_heard : List ℤ → List ℤ → List Change
+changes_heard m e = in_time (map (turn_change M) (turns_of m)) (map (turn_change E) (turns_of e))

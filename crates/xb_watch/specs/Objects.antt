@@ -9,8 +9,8 @@ use Rattle.xb_supervision.specs.declared.figures.Figures.{Figures}
 use Rattle.xb_supervision.specs.declared.figures.Timed.{Timed}
 use Rattle.xb_supervision.specs.Calls.{released_by}
 use Rattle.xb_supervision.specs.Figures.{figures_of}
-use Rattle.xb_watch.specs.declared.keyed.Keyed.{Keyed}
-use Rattle.xb_watch.specs.Texts.{kp_of, lead_text, verdict_text}
+use Rattle.xb_watch.specs.Keyings.{HeardKeying, kp_of}
+use Rattle.xb_watch.specs.Texts.{lead_text, verdict_text}
 
 -- a moment or a time in ms, or null
 abbrev pub ms_data : Option ℕ → Data
@@ -29,12 +29,12 @@ lead_data None = null
 lead_data (Some lead) = string (lead_text lead)
 
 -- a keying
-abbrev pub keyed_data : Option Keyed → Data
+abbrev pub keyed_data : Option HeardKeying → Data
 keyed_data None = null
 keyed_data (Some keyed) = object
     (member (codes "doubts") (number (unsigned keyed.doubts))
     (member (codes "kp_ms") (number (unsigned keyed.kp_ms))
-    (member (codes "sent") (string (digits_text keyed.digits.now))
+    (member (codes "sent") (string (digits_text keyed.digits))
     (member (codes "st_ms") (number (unsigned keyed.st_ms)) no_members))))
 
 -- the moments of a call, and the times
@@ -73,12 +73,12 @@ object_of_parts n call keyed moments times = object
     (member (codes "released_by") (lead_data (released_by call))
     (member (codes "times") times no_members))))))
 
-abbrev pub object_with : ℕ → Option Keyed → Call → Figures → Data
+abbrev pub object_with : ℕ → Option HeardKeying → Call → Figures → Data
 object_with n keyed call figures =
     object_of_parts n call (keyed_data keyed) (moments_data call) (times_data figures)
 
 -- the object of the call of this number on a trunk of a start, after the release of the call before it, with the keying
 -- that was heard in it
-abbrev pub call_object : ℕ → Start → Option ℕ → Option Keyed → Call → Data
+abbrev pub call_object : ℕ → Start → Option ℕ → Option HeardKeying → Call → Data
 call_object n start released keyed call =
     object_with n keyed call (figures_of start released (kp_of keyed) call)

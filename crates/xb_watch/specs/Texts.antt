@@ -12,7 +12,7 @@ use Rattle.xb_supervision.specs.Calls.{has_signal}
 use Rattle.xb_supervision.specs.Figures.{figures_of}
 use Rattle.xb_supervision.specs.Leads.{other}
 use Rattle.xb_json.specs.Keys.{digits_text}
-use Rattle.xb_watch.specs.declared.keyed.Keyed.{Keyed}
+use Rattle.xb_watch.specs.Keyings.{HeardKeying, kp_of}
 
 abbrev pub lead_text : Lead → List ℕ
 lead_text M = codes "M"
@@ -59,12 +59,12 @@ abbrev pub pulses_line : Option Timed → List ℕ
 pulses_line None = []
 pulses_line (Some timed) = codes "  pulses after " ++ (timed_text timed ++ codes "\n")
 
-abbrev pub keyed_line : Keyed → Option Timed → List ℕ
+abbrev pub keyed_line : HeardKeying → Option Timed → List ℕ
 keyed_line keyed pulsing =
-    codes "  KP" ++ (after_text pulsing ++ (codes ", " ++ (digits_text keyed.digits.now ++ (codes ", ST ends at "
+    codes "  KP" ++ (after_text pulsing ++ (codes ", " ++ (digits_text keyed.digits ++ (codes ", ST ends at "
     ++ (decimal keyed.st_ms ++ (codes " ms" ++ (doubts_text keyed.doubts ++ codes "\n")))))))
 
-abbrev pub number_line : Option Keyed → Option Timed → List ℕ
+abbrev pub number_line : Option HeardKeying → Option Timed → List ℕ
 number_line None pulsing = pulses_line pulsing
 number_line (Some keyed) pulsing = keyed_line keyed pulsing
 
@@ -91,18 +91,14 @@ release_line calling (Some ms) wait =
     codes "  " ++ (lead_text calling ++ (codes " releases at " ++ (decimal ms ++ (codes " ms"
     ++ (wait_text wait ++ codes "\n")))))
 
-abbrev pub lines_of : ℕ → Start → Option Keyed → Call → Figures → List ℕ
+abbrev pub lines_of : ℕ → Start → Option HeardKeying → Call → Figures → List ℕ
 lines_of n start keyed call figures =
     seizure_line n call figures.guard ++ (start_line start figures ++ (number_line keyed figures.pulsing
     ++ (answer_line call.answered_ms figures.held_ms ++ (hang_up_line (other call.calling) call.hung_up_ms
     ++ release_line call.calling call.released_ms figures.release))))
 
-abbrev pub kp_of : Option Keyed → Option ℕ
-kp_of None = None
-kp_of (Some keyed) = Some keyed.kp_ms
-
 -- the block of the call of this number on a trunk of a start, after the release of the call before it, with the keying
 -- that was heard in it
-abbrev pub call_text : ℕ → Start → Option ℕ → Option Keyed → Call → List ℕ
+abbrev pub call_text : ℕ → Start → Option ℕ → Option HeardKeying → Call → List ℕ
 call_text n start released keyed call =
     lines_of n start keyed call (figures_of start released (kp_of keyed) call)

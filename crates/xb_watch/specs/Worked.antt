@@ -1,16 +1,19 @@
 -- Blocks of calls, written by hand.
-use Rattle.std.specs.Prelude.{◌≡◌, [], ◌∷◌, ◌++◌, codes, Some, None}
+use Rattle.std.specs.Prelude.{◌≡◌, ℕ, List, [], ◌∷◌, ◌++◌, codes, Some, None}
 use Rattle.xb_supervision.specs.declared.call.Start.TheVariants.{Wink, Immediate}
+use Rattle.xb_supervision.specs.declared.change.Lead.{Lead}
 use Rattle.xb_supervision.specs.declared.change.Lead.TheVariants.{M, E}
 use Rattle.xb_supervision.specs.Worked.{call}
-use Rattle.xb_watch.specs.declared.keyed.Keyed.{Keyed}
+use Rattle.xb_watch.specs.Keyings.{HeardKeying}
 use Rattle.xb_watch.specs.Texts.{call_text}
+
+abbrev pub keyed : Lead → ℕ → ℕ → List ℕ → ℕ → HeardKeying
+keyed lead kp st digits doubts =
+    record { lead = lead; kp_ms = kp; st_ms = st; digits = digits; doubts = doubts }
 
 pub record AreAsWorked : Type 0 where
   -- a call that was answered, and whose called end hung up first
-  pub answered : (keyed : Keyed) → keyed.kp_ms ≡ 1456 → keyed.st_ms ≡ 2748 → keyed.doubts ≡ 0
-      → keyed.digits.now ≡ 5 ∷ 5 ∷ 5 ∷ 0 ∷ 1 ∷ 2 ∷ 3 ∷ []
-      → call_text 2 Wink (Some 400) (Some keyed)
+  pub answered : call_text 2 Wink (Some 400) (Some (keyed M 1456 2748 (5 ∷ 5 ∷ 5 ∷ 0 ∷ 1 ∷ 2 ∷ 3 ∷ []) 0))
       (call M 1000 (Some 1150) (Some 1362) (Some 36400) None (Some 5000) (Some 36000) (Some 36400))
       ≡ codes "call 2: M seizes the trunk at 1000 ms, 600 ms EARLY after a release\n"
       ++ (codes "  start signal after 150 ms GOOD, for 212 ms GOOD\n"

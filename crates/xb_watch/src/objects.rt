@@ -1,6 +1,7 @@
 // The object of a call.
-ghost use Rattle.std.specs.Prelude.{◌≡◌, IfOk};
+ghost use Rattle.std.specs.Prelude.{◌≡◌, ◌++◌, IfOk, codes, option_copied, string_bytes};
 ghost use Rattle.serde_json.specs.View.{view};
+ghost use Rattle.serde_json.specs.Written.{compact_text};
 ghost use Rattle.xb_json.specs.Objects.{data_of};
 ghost use Rattle.xb_watch.specs.Objects.{call_object, keyed_data, lead_data, moments_data, ms_data, object_of_parts, object_with, timed_data, times_data, times_of_parts};
 
@@ -8,7 +9,7 @@ use crate::keyed::{Keyed, kp_of};
 use crate::texts::{lead_text, verdict_text};
 use serde_json::Value;
 use std::alloc::{AllocError, Global};
-use xb_json::{Member, object_of};
+use xb_json::{Member, line_of, object_of};
 use xb_supervision::{Call, Figures, Lead, Start, Timed};
 
 // A moment or a time in ms, or null.
@@ -46,15 +47,15 @@ fn timed_value(alloc: Global, timed: Option<Timed>) -> Result<Value, AllocError>
     }
 }
 
-fn keyed_value(alloc: Global, keyed: Option<Keyed<'_>>) -> Result<Value, AllocError>
-    ensures { IfOk result (λ value. view value ≡ keyed_data keyed.entry) }
+fn keyed_value(alloc: Global, keyed: Option<&Keyed>) -> Result<Value, AllocError>
+    ensures { IfOk result (λ value. view value ≡ keyed_data (option_copied keyed.entry)) }
 {
     match keyed {
         Some(keyed) => {
             let members = [
                 ("doubts", Member::Number(keyed.doubts)),
                 ("kp_ms", Member::Number(keyed.kp_ms)),
-                ("sent", Member::Digits(keyed.digits)),
+                ("sent", Member::Digits(&keyed.digits)),
                 ("st_ms", Member::Number(keyed.st_ms)),
             ];
             object_of(alloc, &members)
@@ -152,11 +153,11 @@ fn object_of_parts(
 fn object_with(
     alloc: Global,
     number: u64,
-    keyed: Option<Keyed<'_>>,
+    keyed: Option<&Keyed>,
     call: &Call,
     figures: &Figures,
 ) -> Result<Value, AllocError>
-    ensures { IfOk result (λ value. view value ≡ object_with number keyed.entry call.now figures.now) }
+    ensures { IfOk result (λ value. view value ≡ object_with number (option_copied keyed.entry) call.now figures.now) }
 {
     let parts = CallParts {
         keyed: keyed_value(alloc, keyed)?,
@@ -173,11 +174,28 @@ pub fn call_object(
     number: u64,
     start: Start,
     released_ms: Option<u64>,
-    keyed: Option<Keyed<'_>>,
+    keyed: Option<&Keyed>,
     call: &Call,
 ) -> Result<Value, AllocError>
-    ensures { IfOk result (λ value. view value ≡ call_object number start released_ms keyed.entry call.now) }
+    ensures { IfOk result (λ value. view value
+        ≡ call_object number start released_ms (option_copied keyed.entry) call.now) }
 {
     let figures = Figures::of_call(start, released_ms, kp_of(keyed), call);
     object_with(alloc, number, keyed, call, &figures)
+}
+
+// The object as a text line.
+pub(crate) fn call_line(
+    alloc: Global,
+    number: u64,
+    start: Start,
+    released_ms: Option<u64>,
+    keyed: Option<&Keyed>,
+    call: &Call,
+) -> Result<String, AllocError>
+    ensures { IfOk result (λ line. string_bytes line
+        ≡ compact_text (call_object number start released_ms (option_copied keyed.entry) call.now) ++ codes "\n") }
+{
+    let object = call_object(alloc, number, start, released_ms, keyed, call)?;
+    line_of(alloc, &object)
 }

@@ -1,5 +1,5 @@
 // The block of text of a call.
-ghost use Rattle.std.specs.Prelude.{◌≡◌, IfOk, string_bytes};
+ghost use Rattle.std.specs.Prelude.{◌≡◌, IfOk, option_copied, string_bytes};
 ghost use Rattle.xb_watch.specs.Texts.{after_text, answer_line, call_text, doubts_text, guard_text, hang_up_line, held_text, keyed_line, lead_text, length_text, lines_of, number_line, pulses_line, release_line, seizure_line, start_line, start_text, timed_text, verdict_text, wait_text};
 
 use crate::keyed::{Keyed, kp_of};
@@ -136,13 +136,13 @@ fn pulses_line(alloc: Global, pulsing: Option<Timed>) -> Result<String, AllocErr
 
 fn keyed_line(
     alloc: Global,
-    keyed: &Keyed<'_>,
+    keyed: &Keyed,
     pulsing: Option<Timed>,
 ) -> Result<String, AllocError>
     ensures { IfOk result (λ text. string_bytes text ≡ keyed_line keyed.now pulsing) }
 {
     let after = after_text(alloc, pulsing)?;
-    let digits = text_of_digits(alloc, keyed.digits)?;
+    let digits = text_of_digits(alloc, &keyed.digits)?;
     let doubts = doubts_text(alloc, keyed.doubts)?;
     let ms = keyed.st_ms;
     format!(in alloc; "  KP{after}, {digits}, ST ends at {ms} ms{doubts}\n")
@@ -150,13 +150,13 @@ fn keyed_line(
 
 fn number_line(
     alloc: Global,
-    keyed: Option<Keyed<'_>>,
+    keyed: Option<&Keyed>,
     pulsing: Option<Timed>,
 ) -> Result<String, AllocError>
-    ensures { IfOk result (λ text. string_bytes text ≡ number_line keyed.entry pulsing) }
+    ensures { IfOk result (λ text. string_bytes text ≡ number_line (option_copied keyed.entry) pulsing) }
 {
     match keyed {
-        Some(keyed) => keyed_line(alloc, &keyed, pulsing),
+        Some(keyed) => keyed_line(alloc, keyed, pulsing),
         None => pulses_line(alloc, pulsing),
     }
 }
@@ -232,12 +232,12 @@ fn lines_of(
     alloc: Global,
     number: u64,
     start: Start,
-    keyed: Option<Keyed<'_>>,
+    keyed: Option<&Keyed>,
     call: &Call,
     figures: &Figures,
 ) -> Result<String, AllocError>
     ensures { IfOk result (λ text. string_bytes text
-        ≡ lines_of number start keyed.entry call.now figures.now) }
+        ≡ lines_of number start (option_copied keyed.entry) call.now figures.now) }
 {
     let seizure = seizure_line(alloc, number, call, figures.guard)?;
     let signal = start_line(alloc, start, figures)?;
@@ -255,11 +255,11 @@ pub fn call_text(
     number: u64,
     start: Start,
     released_ms: Option<u64>,
-    keyed: Option<Keyed<'_>>,
+    keyed: Option<&Keyed>,
     call: &Call,
 ) -> Result<String, AllocError>
     ensures { IfOk result (λ text. string_bytes text
-        ≡ call_text number start released_ms keyed.entry call.now) }
+        ≡ call_text number start released_ms (option_copied keyed.entry) call.now) }
 {
     let figures = Figures::of_call(start, released_ms, kp_of(keyed), call);
     lines_of(alloc, number, start, keyed, call, &figures)
