@@ -76,7 +76,7 @@ fn complete(
     ensures begun { OnOk result (begun.new.items ≡ []) }
 {
     begun.push(key)?;
-    heard.push(keyed_by(alloc, lead, begun)?)?;
+    heard.push(keyed_by(alloc, lead, begun.as_slice())?)?;
     begun.clear();
     Ok(())
 }
@@ -105,7 +105,7 @@ fn take(
         (Collects lead heard.old.items begun.old.items key heard.new.items begun.new.items) }
     ensures begun { OnOk result (IsBegun begun.new.items) }
 {
-    match step_of(begun, &key) {
+    match step_of(begun.as_slice(), &key) {
         Step::Keeps => {
             begun.push(key)?;
             Ok(())
