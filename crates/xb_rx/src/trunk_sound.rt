@@ -1,5 +1,5 @@
 // From the sound of both directions of a trunk to what is told of its calls.
-ghost use Rattle.std.specs.Prelude.{◌≡◌, IfErr, IfOk, IfSome, string_bytes};
+ghost use Rattle.std.specs.Prelude.{◌≡◌, ◌++◌, ◌∷◌, [], IfErr, IfOk, IfSome, OnOk, string_bytes};
 ghost use Rattle.xb_rx.specs.Hearing.{HasForm};
 ghost use Rattle.xb_rx.specs.Samples.{IsForm};
 ghost use Rattle.xb_rx.specs.Streams.{sound_left};
@@ -31,6 +31,14 @@ fn read_sound<R: Read>(alloc: Global, sound: &mut R) -> Result<Vec<u8>, TrunkFau
     Ok(read_whole(alloc, sound, MOST_SOUND_BYTES)?)
 }
 
+// Keeps a sample.
+fn keep(samples: &mut Vec<i16>, sample: i16) -> Result<(), AllocError>
+    ensures { OnOk result (samples.new.items ≡ samples.old.items ++ sample ∷ []) }
+{
+    samples.push(sample)?;
+    Ok(())
+}
+
 // The samples of a source, to its end.
 fn samples_of<R: Read>(alloc: Global, source: &mut Source<R>) -> Result<Vec<i16>, TrunkFault>
     requires { IsForm source.old.form }
@@ -39,7 +47,7 @@ fn samples_of<R: Read>(alloc: Global, source: &mut Source<R>) -> Result<Vec<i16>
 {
     let mut samples = Vec::new(alloc);
     while let Some(sample) = source.next_sample()? {
-        samples.push(sample)?;
+        keep(&mut samples, sample)?;
     }
     Ok(samples)
 }

@@ -24,7 +24,7 @@ loop-sample-preserved g c =
     let samples = c.loop-sample.samples.items in
     let x : ℤ = c.in-Some.sample in
     let fits : FitsSigned w16 x = search rules in
-    let put = c.in_ok-push.ensures.items ∙ ap (λ (y : ℤ). samples ++ y ∷ []) (to_z-of_z w16 x fits) in record {
+    let put = c.in_ok-keep.ensures ∙ ap (λ (y : ℤ). samples ++ y ∷ []) (to_z-of_z w16 x fits) in record {
       form = subst IsForm (sym c.in_ok-sample.ensures.form) c.loop-sample.invariant.form;
       follows = subst (λ (xs : List ℤ). Follows all xs new) (sym put)
           (follows-more all samples x old new c.loop-sample.invariant.follows
