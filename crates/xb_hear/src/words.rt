@@ -12,6 +12,7 @@ use xb_watch::{CallForm, START, start_of};
 
 // What each word of a trunk wants beside it, and what is said of lines in place of one.
 const OF_A_TRUNK: &[&str] = &["m-lead"];
+
 const OF_LINES: &[&str] = &["line", "refused", "html", "svg"];
 
 // What each word of a recording wants beside it.

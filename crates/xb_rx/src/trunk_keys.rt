@@ -6,9 +6,7 @@ ghost use Rattle.xb_rx.specs.Trunks.{Collects, keyed_by, keyings_of};
 
 use crate::begun::{Step, step_of};
 use std::alloc::{AllocError, Global};
-use xb_measured::{
-    Heard, NamedKey, Receiver, began_ms, digits_in, doubt_count, ended_ms,
-};
+use xb_measured::{Heard, NamedKey, Receiver, began_ms, digits_in, doubt_count, ended_ms};
 use xb_supervision::Lead;
 use xb_watch::Keyed;
 

@@ -69,11 +69,7 @@ fn far_start(start: Start) -> Start
     ensures form { IsForm result.form }
 {
     let next = start.form.channel + 1;
-    let channel = if next < start.form.channels {
-        next
-    } else {
-        0
-    };
+    let channel = if next < start.form.channels { next } else { 0 };
     let form = SampleForm {
         channel,
         ..start.form

@@ -68,7 +68,11 @@ fn earlier(at_ms: u64, changes: &[Change]) -> usize
 }
 
 /// The changes of both, each by its time.
-pub(crate) fn in_time(alloc: Global, changes: &[Change], others: &[Change]) -> Result<Vec<Change>, AllocError>
+pub(crate) fn in_time(
+    alloc: Global,
+    changes: &[Change],
+    others: &[Change],
+) -> Result<Vec<Change>, AllocError>
     ensures { IfOk result (λ all. all.items ≡ in_time changes.now others.now) }
 {
     let mut all = Vec::new(alloc);

@@ -134,11 +134,7 @@ fn pulses_line(alloc: Global, pulsing: Option<Timed>) -> Result<String, AllocErr
     }
 }
 
-fn keyed_line(
-    alloc: Global,
-    keyed: &Keyed,
-    pulsing: Option<Timed>,
-) -> Result<String, AllocError>
+fn keyed_line(alloc: Global, keyed: &Keyed, pulsing: Option<Timed>) -> Result<String, AllocError>
     ensures { IfOk result (λ text. string_bytes text ≡ keyed_line keyed.now pulsing) }
 {
     let after = after_text(alloc, pulsing)?;

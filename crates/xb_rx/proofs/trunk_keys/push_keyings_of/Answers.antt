@@ -9,9 +9,10 @@ use Rattle.xb_rx.proofs.trunk_keys.push_keyings_of.Goals as goal
 
 pub loop-key-init : goal.loop-key-init
 loop-key-init c =
-    let none = c.new-begun.ensures.items in
-    (subst IsBegun (sym none) tt,
-    ap (λ (ks : List Heard). c.args.heard.now.items ++ keyings_of c.args.lead (ks ++ c.args.keys.now)) none)
+    let none = c.new-begun.ensures.items in (
+      subst IsBegun (sym none) tt,
+      ap (λ (ks : List Heard). c.args.heard.now.items ++ keyings_of c.args.lead (ks ++ c.args.keys.now)) none,
+    )
 
 pub loop-key-preserved : goal.loop-key-preserved
 loop-key-preserved c =
@@ -19,12 +20,13 @@ loop-key-preserved c =
     let keys = c.args.keys.now in
     let i = c.loop-key.key-index in
     let later = drop (i + 1) keys in
-    let F : List Heard → List HeardKeying = λ ks. c.loop-key.heard.items ++ keyings_of lead (c.loop-key.begun.items ++ ks) in
-    (c.in_ok-take.ensures.begun,
-    c.in_ok-take.ensures.heard later
-    ∙ ap (λ (key : Heard). F (key ∷ later)) c.of.ensures
-    ∙ sym (at_drop_more F keys i _ c.loop-key-test.true)
-    ∙ c.loop-key.invariant.1)
+    let F : List Heard → List HeardKeying = λ ks. c.loop-key.heard.items ++ keyings_of lead (c.loop-key.begun.items ++ ks) in (
+      c.in_ok-take.ensures.begun,
+      c.in_ok-take.ensures.heard later
+          ∙ ap (λ (key : Heard). F (key ∷ later)) c.of.ensures
+          ∙ sym (at_drop_more F keys i _ c.loop-key-test.true)
+          ∙ c.loop-key.invariant.1,
+    )
 
 pub returns : goal.returns
 returns c =
