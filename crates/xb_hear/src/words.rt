@@ -10,9 +10,10 @@ use xb_model::{LINES, LineNo};
 use xb_supervision::Start;
 use xb_watch::{CallForm, START, start_of};
 
-// What each word of a trunk wants beside it, and what is said of lines in place of one.
+// What each word of a trunk wants beside it.
 const OF_A_TRUNK: &[&str] = &["m-lead"];
 
+// What is said of lines, and so not of a trunk.
 const OF_LINES: &[&str] = &["line", "refused", "html", "svg"];
 
 // What each word of a recording wants beside it.
