@@ -1,18 +1,10 @@
 // What a caller hears of the office while nobody speaks: dial tone until the first digit, nothing then, and at last
-// ringback, busy tone or reorder. docs/DEFINITIONS.md has each tone, and where it is from; its samples are the module's.
+// ringback, busy tone or reorder. Which tones these are, how they come and go, and their samples are the module's.
 
 const Hears = { NOTHING: 0, DIAL_TONE: 1, RINGBACK: 2, BUSY: 3, REORDER: 4 };
 const HEARS_WORDS = ['', '♪ dial tone', '♪ it rings', '♪ busy', '♪ reorder'];
 const CALLER_LEVEL = 0.25;
-// A tone that goes on is so long as all its frequencies come round.
-const ROUND_MS = 100;
-
-// Two frequencies in Hz, and for how many ms they sound and are silent in turn, by the precise plan and as in a city
-// before it.
-const CALLER_TONES = {
-  precise: [[350, 440, ROUND_MS, 0], [440, 480, 2000, 4000], [480, 620, 500, 500], [480, 620, 250, 250]],
-  city: [[480, 720, ROUND_MS, 0], [380, 460, 2000, 4000], [480, 720, 500, 500], [480, 720, 250, 250]],
-};
+const PLANS = ['precise', 'city'];
 
 class Caller {
   constructor(module, sound) {
@@ -38,7 +30,7 @@ class Caller {
 
   // A tone once, and its silence.
   samplesOf(what) {
-    const [low, high, on, off] = CALLER_TONES[this.plan][what - 1];
+    const { low, high, on, off } = this.module.callerTone(what, PLANS.indexOf(this.plan));
     const samples = new Float32Array(SAMPLES_A_MS * (on + off));
     this.module.tone(low, high, SAMPLES_A_MS * on).forEach((sample, n) => { samples[n] = sample / 32768; });
     return samples;

@@ -66,7 +66,7 @@ class Module {
       marks: roomFor('mark', MOST_MARKS), cadence: roomFor('cadence'), ear: roomFor('ear'),
       heard: roomFor('heard', MOST_HEARD), lines: roomFor('line', MOST_LINES), digits: room(MOST_NUMBER_DIGITS),
       entry: room(ENTRY_BYTES), samples: room(2 * MOST_SAMPLES), place: room(4), count: room(8), heardOf: room(8),
-      secondTable: roomFor('table'), timed: roomFor('timed', MOST_INCOMING),
+      caller: roomFor('caller'), secondTable: roomFor('table'), timed: roomFor('timed', MOST_INCOMING),
       outcomes: roomFor('outcome', MOST_INCOMING + 1), outcome: roomFor('outcome'),
     };
     if (next > this.bytes.length) throw new Error('the module has too little memory');
@@ -185,6 +185,12 @@ class Module {
   cadence() {
     this.calls.mfweb_cadence(BigInt(this.at.cadence));
     return this.memory.read('cadence', this.at.cadence);
+  }
+
+  // What a caller hears, by its number and that of a plan: two frequencies, and for how many ms they sound and are silent.
+  callerTone(heard, plan) {
+    this.calls.mfweb_caller_tone(heard, plan, BigInt(this.at.caller));
+    return this.memory.read('caller', this.at.caller);
   }
 
   // So many samples of a tone, 8,000 a second, of no more than there is room for.

@@ -1,3 +1,4 @@
+pub mod CallerTones
 pub mod Calls
 pub mod Showing
 pub mod Lamps

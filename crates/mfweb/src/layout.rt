@@ -2,6 +2,7 @@
 ghost use Rattle.std.specs.Prelude.{◌≡◌, ◌≢◌, ◌≤◌, ◌<◌, length, take};
 ghost use Rattle.mfweb.specs.declared.layout.TheConstants.{LAYOUT};
 
+use crate::caller_tones::CallerTone;
 use crate::exports::WebRoute;
 use crate::lamps::{WebDigit, WebLamps};
 use crate::taking::WebTaken;
@@ -28,6 +29,7 @@ lamps 68 entries:u32@0 phase:u8@4 breaks:u8@5 attempt:u8@6 count:u8@7 digits:dig
 taken 584 marks:mark*24@0 signals:signal*2@480 mark_count:u32@496 signal_count:u32@500 lamps:lamps@504 \
 wrong:u32@572 digit:u32@576 listens:u32@580
 cadence 8 lead:u16@0 kp:u16@2 key:u16@4 gap:u16@6
+caller 8 low:u16@0 high:u16@2 on:u16@4 off:u16@6
 sight 24 low_level:u64@0 high_level:u64@8 low:u16@16 high:u16@18 kind:u16@20 value:u16@22
 heard 40 sight:sight@0 first:u64@24 past:u64@32
 ear 1816
@@ -58,6 +60,8 @@ const _: () = prove!(size_of::<WebLamps>() == 68);
 const _: () = prove!(size_of::<WebTaken>() == 584);
 
 const _: () = prove!(size_of::<Cadence>() == 8);
+
+const _: () = prove!(size_of::<CallerTone>() == 8);
 
 const _: () = prove!(size_of::<PlainSight>() == 24);
 

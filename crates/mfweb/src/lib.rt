@@ -16,11 +16,13 @@
 //!   the keys are those of `keys_of_sound` of `xb_ear`.
 //! - `mfweb_incoming`: what an incoming register tells of keys that were heard, and of their end: the outcomes
 //!   of `xb_incoming`. `mfweb_onward`: the marks of an outcome by a table.
-//! - `mfweb_tone`: the samples of a tone, as in `xb_sound`. `mfweb_limits` and `mfweb_cadence`: the standard
-//!   values. `mfweb_layout`: where the fields of each struct stand.
+//! - `mfweb_tone`: the samples of a tone, as in `xb_sound`. `mfweb_caller_tone`: what a caller hears while
+//!   nobody speaks. `mfweb_limits` and `mfweb_cadence`: the standard values. `mfweb_layout`: where the fields of
+//!   each struct stand.
 #![tactic(auto)]
 
 mod caller_signals;
+mod caller_tones;
 mod exports;
 mod lamps;
 pub mod laws;
@@ -32,6 +34,7 @@ mod taking;
 mod wrong;
 
 pub use caller_signals::{mfweb_number, mfweb_tell};
+pub use caller_tones::mfweb_caller_tone;
 pub use exports::{
     mfweb_add, mfweb_begin, mfweb_cadence, mfweb_entry, mfweb_limits, mfweb_route, mfweb_tone,
 };
