@@ -23,7 +23,7 @@ use Rattle.xb_tandem.specs.Entries.{call_by, calls_of, calls_of_signs, page_of_s
 use Rattle.xb_tandem.specs.Faults.{of_reading, of_writing}
 use Rattle.xb_tandem.specs.KeyLines.{Said, sign_of_line}
 use Rattle.xb_tandem.specs.Relaying.{BeganLine, BeganPage, IsFresh, IsOfKeys, TakesLine, WritesPage}
-use Rattle.xb_tandem.specs.Signs.{keys_of, told_so_far, told_with}
+use Rattle.xb_tandem.specs.Signs.{keys_of, last_end, told_so_far, told_with}
 use Rattle.xb_tandem.specs.TextLines.{ReadsLine, Signs, sign_and_rest, sign_read, signs_from, signs_of_text, signs_read, text_lines, with_signs}
 use Rattle.xb_tandem.specs.Written.{Ends, HasWritten}
 use Rattle.xb_tandem.proofs.KeyLines.{line-long}
@@ -77,7 +77,7 @@ module _ (form : Form) (line limit : ℕ) (table : Outgoing) (signs : List Sign)
       → AppendsBeginning old new (page_of_signs form line limit table signs)
   told-page begun =
       let told = calls_of table (told_so_far limit signs) in
-      let ended = told_with false (at_end (phase_after limit (keys_of signs))) in
+      let ended = told_with false (last_end signs) (at_end (phase_after limit (keys_of signs))) in
       let calls : calls_of_signs limit table signs ≡ told ++ calls_of table ended
       = map-append (call_by table) (told_so_far limit signs) ended in
       AppendsBeginning-first old new (told_calls form line table.pulsed (calls_of_signs limit table signs)) _
@@ -125,6 +125,7 @@ pub fresh-written : (office : Office) (start out : Option (List ℕ)) → IsFres
     → HasWritten office.register.timeout_ms office [] start out
 fresh-written office start out fresh wrote = record {
   taken = fresh.taken;
+  last = fresh.last;
   told = record {
     number = omega (arith, fresh.keyed, fresh.refused);
     keyed = fresh.keyed;

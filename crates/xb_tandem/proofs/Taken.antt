@@ -21,15 +21,15 @@ use Rattle.xb_tandem.specs.Entries.{call_with, calls_of, calls_of_signs, keyed_i
 use Rattle.xb_tandem.specs.Faults.{of_writing}
 use Rattle.xb_tandem.specs.KeyLines.{sign_of_line}
 use Rattle.xb_tandem.specs.Relaying.{BeganLine, TakesLine}
-use Rattle.xb_tandem.specs.Signs.{is_doubt, key_of, keys_of, told_in_all, told_so_far}
+use Rattle.xb_tandem.specs.Signs.{end_of, is_doubt, key_of, keys_of, last_end, told_in_all, told_so_far, told_with}
 use Rattle.xb_tandem.specs.TextLines.{sign_read}
 use Rattle.xb_tandem.specs.Written.{Ends, Finishes, HasTold, HasWritten, IsWithCounts, Takes, Tells, left_of}
-use Rattle.xb_tandem.proofs.SignsTold.{all-more, calls-none, calls-one, so-far-more}
+use Rattle.xb_tandem.proofs.SignsTold.{all-more, calls-none, calls-one, last-more, so-far-more}
 use Rattle.xb_tandem.proofs.Written.{left-told, taken-told, told-first}
 
--- the office with another register
-abbrev pub with_register : Office → Register → Office
-with_register office register = record {
+-- the office with another register, after a key that ended then
+abbrev pub with_register : Office → Register → ℕ → Office
+with_register office register last = record {
   form = office.form;
   line = office.line;
   table = office.table;
@@ -37,11 +37,12 @@ with_register office register = record {
   keyed = office.keyed;
   refused = office.refused;
   dialled = office.dialled;
+  last_ms = last;
 }
 
-told-with : (office : Office) (register : Register) (calls : List Call) (start out : Option (List ℕ))
-    → HasTold office calls start out → HasTold (with_register office register) calls start out
-told-with office register calls start out told =
+told-with : (office : Office) (register : Register) (last : ℕ) (calls : List Call) (start out : Option (List ℕ))
+    → HasTold office calls start out → HasTold (with_register office register last) calls start out
+told-with office register last calls start out told =
     record {
       number = told.number;
       keyed = told.keyed;
@@ -53,12 +54,14 @@ told-with office register calls start out told =
 -- what is told of calls is what is told of signs
 takes-by : (limit : ℕ) (office : Office) (signs : List Sign) (r : Result (Unit {0}) WritingFault)
     (start out : Option (List ℕ)) → HasTaken limit office.register (keys_of signs) (told_by limit (keys_of signs))
+    → office.last_ms ≡ last_end signs
     → Tells office (calls_of office.table (told_so_far limit signs)) r start out → Takes limit office signs r start out
-takes-by limit office signs (Ok u) start out taken told = record { taken = taken; told = told }
-takes-by limit office signs (Err f) start out taken told = told
+takes-by limit office signs (Ok u) start out taken last told = record { taken = taken; last = last; told = told }
+takes-by limit office signs (Err f) start out taken last told = told
 
-module _ (limit : ℕ) (old : Office) (register : Register) (signs : List Sign) (sign : Sign)
+module _ (limit : ℕ) (old : Office) (register : Register) (last : ℕ) (signs : List Sign) (sign : Sign)
     (found : Option Dialled) (start mid : Option (List ℕ)) (has : HasWritten limit old signs start mid)
+    (ends : last ≡ end_of sign)
     (took : HasTaken limit register (keys_of signs ++ key_of sign ∷ [])
     (told_by limit (keys_of signs) ++ option_to_list found)) where
   keys-more : keys_of signs ++ key_of sign ∷ [] ≡ keys_of (signs ++ sign ∷ [])
@@ -69,50 +72,64 @@ module _ (limit : ℕ) (old : Office) (register : Register) (signs : List Sign) 
       subst (λ (keys : List TimedKey). HasTaken limit register keys (told_by limit keys)) keys-more
       (taken-told limit register (keys_of signs ++ key_of sign ∷ []) _ took)
 
+  last-told : last ≡ last_end (signs ++ sign ∷ [])
+  last-told = ends ∙ sym (last-more signs sign)
+
+  told-more : told_so_far limit (signs ++ sign ∷ [])
+      ≡ told_so_far limit signs ++ told_with (is_doubt sign) last (option_to_list found)
+  told-more =
+      so-far-more limit signs sign found took.given
+      ∙ ap (λ at. told_so_far limit signs ++ told_with (is_doubt sign) at (option_to_list found)) (sym ends)
+
   pub takes-some : (new : Office) (outcome : Dialled) (r : Result (Unit {0}) WritingFault) (out : Option (List ℕ))
-      → found ≡ Some outcome → IsWithCounts (with_register old register) new
-      → ((calls : List Call) (begun : Option (List ℕ)) → HasTold (with_register old register) calls begun mid
-      → Tells new (calls ++ call_with old.table (is_doubt sign) outcome ∷ []) r begun out)
+      → found ≡ Some outcome → IsWithCounts (with_register old register last) new
+      → ((calls : List Call) (begun : Option (List ℕ)) → HasTold (with_register old register last) calls begun mid
+      → Tells new (calls ++ call_with old.table (is_doubt sign) last outcome ∷ []) r begun out)
       → Takes limit new (signs ++ sign ∷ []) r start out
   takes-some new outcome r out is same tells =
       takes-by limit new (signs ++ sign ∷ []) r start out
       (subst (λ (reg : Register). HasTaken limit reg (keys_of (signs ++ sign ∷ [])) (told_by limit (keys_of (signs ++ sign ∷ []))))
       (sym same.register) taken-more)
+      (same.last ∙ last-told)
       (subst (λ (t : Outgoing). Tells new (calls_of t (told_so_far limit (signs ++ sign ∷ []))) r start out) (sym same.table)
       (subst (λ calls. Tells new calls r start out)
-      (calls-one old.table (told_so_far limit signs) (told_so_far limit (signs ++ sign ∷ [])) (is_doubt sign) found outcome is
-      (so-far-more limit signs sign found took.given))
-      (tells (calls_of old.table (told_so_far limit signs)) start (told-with old register _ start mid has.told))))
+      (calls-one old.table (told_so_far limit signs) (told_so_far limit (signs ++ sign ∷ [])) (is_doubt sign) last found told-more
+      outcome is)
+      (tells (calls_of old.table (told_so_far limit signs)) start (told-with old register last _ start mid has.told))))
 
-  pub takes-none : found ≡ None → HasWritten limit (with_register old register) (signs ++ sign ∷ []) start mid
+  pub takes-none : found ≡ None → HasWritten limit (with_register old register last) (signs ++ sign ∷ []) start mid
   takes-none is = record {
     taken = taken-more;
-    told = subst (λ calls. HasTold (with_register old register) calls start mid)
-        (calls-none old.table (told_so_far limit signs) (told_so_far limit (signs ++ sign ∷ [])) (is_doubt sign) found is
-        (so-far-more limit signs sign found took.given))
-        (told-with old register _ start mid has.told);
+    last = last-told;
+    told = subst (λ calls. HasTold (with_register old register last) calls start mid)
+        (calls-none old.table (told_so_far limit signs) (told_so_far limit (signs ++ sign ∷ [])) (is_doubt sign) last found told-more
+        is)
+        (told-with old register last _ start mid has.told);
   }
 
 module _ (limit : ℕ) (old : Office) (signs : List Sign) (found : Option Dialled) (start mid : Option (List ℕ))
     (has : HasWritten limit old signs start mid)
     (ended : told_by limit (keys_of signs) ++ option_to_list found ≡ outcomes limit (keys_of signs)) where
+  told-all : told_in_all limit signs ≡ told_so_far limit signs ++ told_with false old.last_ms (option_to_list found)
+  told-all =
+      all-more limit signs found ended
+      ∙ ap (λ at. told_so_far limit signs ++ told_with false at (option_to_list found)) (sym has.last)
+
   pub finishes-some : (new : Office) (outcome : Dialled) (r : Result (Unit {0}) WritingFault) (out : Option (List ℕ))
       → found ≡ Some outcome → IsWithCounts old new
       → ((calls : List Call) (begun : Option (List ℕ)) → HasTold old calls begun mid
-      → Tells new (calls ++ call_with old.table false outcome ∷ []) r begun out)
+      → Tells new (calls ++ call_with old.table false old.last_ms outcome ∷ []) r begun out)
       → Finishes limit new signs r start out
   finishes-some new outcome r out is same tells =
       subst (λ (t : Outgoing). Tells new (calls_of t (told_in_all limit signs)) r start out) (sym same.table)
       (subst (λ calls. Tells new calls r start out)
-      (calls-one old.table (told_so_far limit signs) (told_in_all limit signs) false found outcome is
-      (all-more limit signs found ended))
+      (calls-one old.table (told_so_far limit signs) (told_in_all limit signs) false old.last_ms found told-all outcome is)
       (tells (calls_of old.table (told_so_far limit signs)) start has.told))
 
   pub finishes-none : found ≡ None → Finishes limit old signs (Ok tt) start mid
   finishes-none is =
       subst (λ calls. HasTold old calls start mid)
-      (calls-none old.table (told_so_far limit signs) (told_in_all limit signs) false found is
-      (all-more limit signs found ended)) has.told
+      (calls-none old.table (told_so_far limit signs) (told_in_all limit signs) false old.last_ms found told-all is) has.told
 
 -- the end of the signs
 module _ (limit : ℕ) (old new : Office) (signs : List Sign) (start : Option (List ℕ)) (same : IsWithCounts old new) where

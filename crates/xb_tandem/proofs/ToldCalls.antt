@@ -77,8 +77,8 @@ objects-append line pulsed n (call ∷ first) later =
         ≡ object_lines line pulsed n (call ∷ first)
         ++ object_lines line pulsed (n + length (on_page pulsed (call ∷ first))) later
     at earlier true e =
-        rw e (ap (λ rest. pulses_line line call.order ++ rest) (earlier n)
-        ∙ sym (append_assoc (pulses_line line call.order) (object_lines line pulsed n first)
+        rw e (ap (λ rest. pulses_line line call ++ rest) (earlier n)
+        ∙ sym (append_assoc (pulses_line line call) (object_lines line pulsed n first)
         (object_lines line pulsed (n + length (on_page pulsed first)) later)))
     at earlier false e =
         let m : n + 1 + length (on_page pulsed first) ≡ n + suc (length (on_page pulsed first)) = omega (arith) in
@@ -88,9 +88,9 @@ objects-append line pulsed n (call ∷ first) later =
         ∙ ap (λ m. (object_line line n call ++ object_lines line pulsed (n + 1) first) ++ object_lines line pulsed m later) m)
 
 object-dialled : (line : ℕ) (pulsed : List ℕ) (n : ℕ) (call : Call) → goes_dialled pulsed call ≡ true
-    → object_lines line pulsed n (call ∷ []) ≡ pulses_line line call.order
+    → object_lines line pulsed n (call ∷ []) ≡ pulses_line line call
 unfolding object_lines
-object-dialled line pulsed n call is = rw is (append-nil (pulses_line line call.order))
+object-dialled line pulsed n call is = rw is (append-nil (pulses_line line call))
 
 object-entry : (line : ℕ) (pulsed : List ℕ) (n : ℕ) (call : Call) → goes_dialled pulsed call ≡ false
     → object_lines line pulsed n (call ∷ []) ≡ object_line line n call

@@ -52,7 +52,7 @@ rows_of_numbers line numbers = on_line line (line_runs ten_pulses_a_second numbe
 unfoldable pub object_lines : ℕ → List ℕ → ℕ → List Call → List ℕ
 object_lines line pulsed n [] = []
 object_lines line pulsed n (call ∷ calls) =
-    if goes_dialled pulsed call then pulses_line line call.order ++ object_lines line pulsed n calls
+    if goes_dialled pulsed call then pulses_line line call ++ object_lines line pulsed n calls
     else object_line line n call ++ object_lines line pulsed (n + 1) calls
 
 -- the marks of a call's entry
@@ -97,14 +97,14 @@ left_out forms.Json pulsed calls = 0
 left_out forms.Rows pulsed calls = length (on_page pulsed calls)
 
 -- the calls of outcomes, by a table
-abbrev pub a_call : Order → Bool → Call
-a_call order is_doubted = record { order = order; is_doubted = is_doubted }
+abbrev pub a_call : Order → Bool → ℕ → Call
+a_call order is_doubted at = record { order = order; is_doubted = is_doubted; at_ms = at }
 
-abbrev pub call_with : Outgoing → Bool → Dialled → Call
-call_with table is_doubted outcome = a_call (outgoing_order table outcome) is_doubted
+abbrev pub call_with : Outgoing → Bool → ℕ → Dialled → Call
+call_with table is_doubted at outcome = a_call (outgoing_order table outcome) is_doubted at
 
 abbrev pub call_by : Outgoing → Told → Call
-call_by table told = call_with table told.is_doubted told.outcome
+call_by table told = call_with table told.is_doubted told.at_ms told.outcome
 
 abbrev pub calls_of : Outgoing → List Told → List Call
 calls_of table found = map (call_by table) found
@@ -133,14 +133,14 @@ entry_line forms.Page line n call = entry_text line n (marks_by call)
 entry_line forms.Json line n call = object_line line n call
 entry_line forms.Rows line n call = []
 
-abbrev pub dialled_line : Form → ℕ → ℕ → Order → List ℕ
-dialled_line forms.Page line before order = []
-dialled_line forms.Json line before order = pulses_line line order
-dialled_line forms.Rows line before order = flat_map record_text (rows_of_call line before (sent_of order))
+abbrev pub dialled_line : Form → ℕ → ℕ → Call → List ℕ
+dialled_line forms.Page line before call = []
+dialled_line forms.Json line before call = pulses_line line call
+dialled_line forms.Rows line before call = flat_map record_text (rows_of_call line before (sent_by call))
 
 abbrev pub call_line : Form → ℕ → List ℕ → ℕ → ℕ → Call → List ℕ
 call_line form line pulsed entries before call =
-    if goes_dialled pulsed call then dialled_line form line before call.order
+    if goes_dialled pulsed call then dialled_line form line before call
     else entry_line form line (entries + 1) call
 
 -- the page of a line's entries, as `mfbank` prints it

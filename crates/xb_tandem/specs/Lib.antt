@@ -1,6 +1,7 @@
 pub mod FaultTexts
 pub mod Faults
 pub mod Signs
+pub mod Worked
 pub mod KeyLines
 pub mod TextLines
 pub mod Objects

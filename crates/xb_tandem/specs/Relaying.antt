@@ -25,6 +25,7 @@ pub record IsFresh (office : Office) : Type 0 where
   pub keyed : office.keyed ≡ 0
   pub refused : office.refused ≡ 0
   pub dialled : office.dialled ≡ 0
+  pub last : office.last_ms ≡ 0
 
 -- the entry that the sign of a line makes certain was begun
 pub record BeganLine (limit : ℕ) (trusts : Bool) (office : Office) (signs : List Sign) (line : List ℕ)

@@ -10,7 +10,7 @@ use Rattle.xb_tandem.specs.declared.request.Form.{Form}
 use Rattle.xb_tandem.specs.declared.request.Form.TheVariants as forms
 use Rattle.xb_tandem.specs.declared.sign.Sign.{Sign}
 use Rattle.xb_tandem.specs.Entries.{calls_of, calls_of_signs, dialled_numbers, goes_dialled, is_refusal, keyed_in, left_out, on_page, page_of_signs, refused_in, told_calls, told_of_signs}
-use Rattle.xb_tandem.specs.Signs.{keys_of, told_in_all, told_so_far}
+use Rattle.xb_tandem.specs.Signs.{keys_of, last_end, told_in_all, told_so_far}
 
 -- one call more is counted
 pub record CountsOne (old new : Office) (call : Call) : Type 0 where
@@ -26,6 +26,7 @@ pub record IsWithCounts (old new : Office) : Type 0 where
   pub line : new.line ≡ old.line
   pub table : new.table ≡ old.table
   pub register : new.register ≡ old.register
+  pub last : new.last_ms ≡ old.last_ms
 
 -- how many calls are not in what an office has written, by its counts
 abbrev pub left_by : Form → ℕ → ℕ → ℕ
@@ -52,6 +53,7 @@ Tells office calls (Err f) start out = AppendsBeginning start out (told_calls of
 -- the register has taken these signs, and the entries that they make certain were written
 pub record HasWritten (limit : ℕ) (office : Office) (signs : List Sign) (start out : Option (List ℕ)) : Type 0 where
   pub taken : HasTaken limit office.register (keys_of signs) (told_by limit (keys_of signs))
+  pub last : office.last_ms ≡ last_end signs
   pub told : HasTold office (calls_of office.table (told_so_far limit signs)) start out
 
 -- or their beginning

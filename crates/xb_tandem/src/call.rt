@@ -8,4 +8,6 @@ pub(crate) struct Call {
     pub(crate) order: Order,
     /// Whether a doubt of the ear refused it.
     pub(crate) is_doubted: bool,
+    /// When this was certain, in ms from the beginning of the sound.
+    pub(crate) at_ms: u64,
 }

@@ -43,20 +43,20 @@ fn sent_of(order: &Order) -> &[Digit]
     }
 }
 
-/// What is written of an order that goes out by dial pulses, after so many.
+/// What is written of a call that goes out by dial pulses, after so many.
 pub(crate) fn dialled_line(
     alloc: Global,
     form: Form,
     line: LineNo,
     before: usize,
-    order: &Order,
+    call: &Call,
 ) -> Result<String, AllocError>
-    ensures { IfOk result (λ text. string_bytes text ≡ dialled_line form line before order.now) }
+    ensures { IfOk result (λ text. string_bytes text ≡ dialled_line form line before call.now) }
 {
     match form {
         Form::Page => Ok(String::new(alloc)),
-        Form::Json => pulses_line(alloc, line, order),
-        Form::Rows => records_of_call(alloc, line, before, sent_of(order)),
+        Form::Json => pulses_line(alloc, line, call),
+        Form::Rows => records_of_call(alloc, line, before, sent_of(&call.order)),
     }
 }
 

@@ -2,6 +2,7 @@
 ghost use Rattle.xb_tandem.specs.Constants.{AreConstants};
 ghost use Rattle.xb_tandem.specs.Entries.{PagesAreTapes, PulsesAreHeard};
 ghost use Rattle.xb_tandem.specs.Signs.{NumbersHaveNoDoubt, SignsAreKeys};
+ghost use Rattle.xb_tandem.specs.Worked.{TimesAreAsWorked};
 
 /// The most bytes of a text line, the two silences of a register, and the most digits that it counts, each as it is.
 pub fn constants()
@@ -19,6 +20,11 @@ pub fn signs_are_keys()
 #[tactic(auto, using(crate::proofs::Undoubted::numbers_have_no_doubt))]
 pub fn numbers_have_no_doubt()
     ensures { NumbersHaveNoDoubt }
+{}
+
+/// Worked cases of the time of each call, reckoned by hand.
+pub fn times_are_as_worked()
+    ensures { TimesAreAsWorked }
 {}
 
 /// The page is that of the entries of the outcomes that are keyed or refused, as `mfbank` prints entries; where no

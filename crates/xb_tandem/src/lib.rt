@@ -10,6 +10,7 @@
 //!   was written is returned.
 //! - `laws::numbers_have_no_doubt`: a number that goes on was keyed by KP, its digits and ST, between which the text says
 //!   no doubt; `laws::signs_are_keys`: what comes of signs is the outcomes of their keys.
+//! - `laws::times_are_as_worked`: an object says when its call was certain: a number at the end of its ST.
 //! - `laws::pages_are_tapes`: the page is that of the entries that are keyed or refused, as `mfbank` defines them.
 //! - `laws::pulses_are_heard`: the rows dial the numbers that go out by dial pulses, and every office whose plan
 //!   completes them hears exactly these.

@@ -15,12 +15,14 @@ fn keyed_object<'a>(
     alloc: Global,
     line: LineNo,
     number: usize,
+    at_ms: u64,
     trunk: Trunk,
     sent: &'a [Digit],
 ) -> Result<Value, AllocError>
-    ensures { IfOk result (λ value. view value ≡ object_by line number false (orders.Key trunk sent.now)) }
+    ensures { IfOk result (λ value. view value ≡ object_by line number at_ms false (orders.Key trunk sent.now)) }
 {
     let members = [
+        ("at_ms", Member::Number(at_ms)),
         ("entry", Member::Number(number as u64)),
         ("keys", Member::Keys(sent)),
         ("line", Member::Number(u64::from(line.get()))),
@@ -47,19 +49,21 @@ fn refused_object(
     alloc: Global,
     line: LineNo,
     number: usize,
-    is_doubted: bool,
+    call: &Call,
     reason: Reason,
     heard: u8,
 ) -> Result<Value, AllocError>
     ensures { IfOk result (λ value. view value
-        ≡ object_by line number is_doubted (orders.Refused reason heard)) }
+        ≡ object_by line number call.now.at_ms call.now.is_doubted (orders.Refused reason heard)) }
 {
+    let reason = reason_word(call.is_doubted, reason);
     let members = [
+        ("at_ms", Member::Number(call.at_ms)),
         ("entry", Member::Number(number as u64)),
         ("heard", Member::Number(u64::from(heard))),
         ("line", Member::Number(u64::from(line.get()))),
         ("outcome", Member::Word("REFUSED")),
-        ("reason", Member::Word(reason_word(is_doubted, reason))),
+        ("reason", Member::Word(reason)),
     ];
     object_with(alloc, &members)
 }
@@ -69,10 +73,10 @@ fn object_of(alloc: Global, line: LineNo, number: usize, call: &Call) -> Result<
     ensures { IfOk result (λ value. view value ≡ object_of line number call.now) }
 {
     match &call.order {
-        Order::Key(trunk, sent) => keyed_object(alloc, line, number, *trunk, sent.digits()),
-        Order::Refused(reason, heard) => {
-            refused_object(alloc, line, number, call.is_doubted, *reason, *heard)
+        Order::Key(trunk, sent) => {
+            keyed_object(alloc, line, number, call.at_ms, *trunk, sent.digits())
         }
+        Order::Refused(reason, heard) => refused_object(alloc, line, number, call, *reason, *heard),
     }
 }
 
@@ -93,12 +97,14 @@ pub(crate) fn object_line(
 fn pulses_object<'a>(
     alloc: Global,
     line: LineNo,
+    at_ms: u64,
     trunk: Trunk,
     sent: &'a [Digit],
 ) -> Result<Value, AllocError>
-    ensures { IfOk result (λ value. view value ≡ pulses_object line trunk sent.now) }
+    ensures { IfOk result (λ value. view value ≡ pulses_object line at_ms trunk sent.now) }
 {
     let members = [
+        ("at_ms", Member::Number(at_ms)),
         ("line", Member::Number(u64::from(line.get()))),
         ("outcome", Member::Word("DIALLED")),
         ("pulses", Member::Digits(sent)),
@@ -108,13 +114,13 @@ fn pulses_object<'a>(
 }
 
 /// The object of a call that goes out by dial pulses, as a text line; of a refusal nothing.
-pub(crate) fn pulses_line(alloc: Global, line: LineNo, order: &Order) -> Result<String, AllocError>
-    ensures { IfOk result (λ text. string_bytes text ≡ pulses_line line order.now) }
+pub(crate) fn pulses_line(alloc: Global, line: LineNo, call: &Call) -> Result<String, AllocError>
+    ensures { IfOk result (λ text. string_bytes text ≡ pulses_line line call.now) }
 {
-    let Order::Key(trunk, sent) = order else {
+    let Order::Key(trunk, sent) = &call.order else {
         return Ok(String::new(alloc));
     };
-    let object = pulses_object(alloc, line, *trunk, sent.digits())?;
+    let object = pulses_object(alloc, line, call.at_ms, *trunk, sent.digits())?;
     line_of(alloc, &object)
 }
 

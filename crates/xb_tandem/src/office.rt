@@ -23,6 +23,8 @@ pub(crate) struct Office {
     pub(crate) keyed: usize,
     pub(crate) refused: usize,
     pub(crate) dialled: usize,
+    /// When the last key ended.
+    pub(crate) last_ms: u64,
 }
 
 impl Office {
@@ -70,13 +72,13 @@ impl Office {
             (self.now.keyed + self.now.refused) self.now.dialled call.now) }
     {
         if self.table.is_dialled(&call.order) {
-            return dialled_line(alloc, self.form, self.line, self.dialled, &call.order);
+            return dialled_line(alloc, self.form, self.line, self.dialled, call);
         }
         let number = self.keyed + self.refused + 1;
         entry_line(alloc, self.form, self.line, number, call)
     }
 
-    // Writes what is told of an outcome, and counts it.
+    // Writes what is told of an outcome, which the last key made certain, and counts it.
     fn tell<W: Write>(
         &mut self,
         alloc: Global,
@@ -87,14 +89,19 @@ impl Office {
         requires { self.old.keyed + self.old.refused + self.old.dialled + 1 < 2 ^ 64 }
         ensures told { (calls : List Told) (start : Option (List ℕ)) →
             HasTold self.old calls start (W.contents out.old) →
-            Tells self.new (calls ++ call_with self.old.table is_doubted outcome.now ∷ []) result start
+            Tells self.new (calls ++ call_with self.old.table is_doubted self.old.last_ms outcome.now ∷ []) result start
             (W.contents out.new) }
         ensures one { self.new.keyed + self.new.refused + self.new.dialled
             ≤ self.old.keyed + self.old.refused + self.old.dialled + 1 }
         ensures same { IsWithCounts self.old self.new }
     {
         let order = self.table.order_of(outcome);
-        let call = Call { order, is_doubted };
+        let at_ms = self.last_ms;
+        let call = Call {
+            order,
+            is_doubted,
+            at_ms,
+        };
         let text = self.call_line(alloc, &call)?;
         write_whole(out, text.as_bytes())?;
         self.count(&call);
@@ -119,7 +126,9 @@ impl Office {
             × (self.new.table ≡ self.old.table) }
     {
         let is_doubted = sign.is_doubt();
-        match self.register.take(sign.key()) {
+        let key = sign.key();
+        self.last_ms = key.end_ms;
+        match self.register.take(key) {
             Some(outcome) => self.tell(alloc, &outcome, is_doubted, out),
             None => Ok(()),
         }

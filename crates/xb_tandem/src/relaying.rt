@@ -99,6 +99,7 @@ pub fn relay<'a, F: Files, R: Read, W: Write>(
         keyed: 0,
         refused: 0,
         dialled: 0,
+        last_ms: 0,
     };
     take_lines(alloc, &mut office, request.trusts, keys, out)
 }

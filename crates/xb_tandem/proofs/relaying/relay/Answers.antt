@@ -15,6 +15,7 @@ returns g c =
       keyed = 0;
       refused = 0;
       dialled = 0;
+      last_ms = 0;
     })
     (g.R.Read.remaining c.args.keys.now) c.take_lines.result (g.W.Write.contents c.args.out.now)
     (g.W.Write.contents c.take_lines.new.out) c.in_ok-table.ensures.table refl refl c.new.ensures.waits

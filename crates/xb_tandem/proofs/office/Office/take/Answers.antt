@@ -1,4 +1,4 @@
-use Rattle.std.proofs.Common.{Bool, ◌∷◌, [], ◌++◌, subst}
+use Rattle.std.proofs.Common.{Bool, ◌∷◌, [], ◌++◌, ap, subst}
 use Rattle.std.specs.Option.{option_to_list}
 use Rattle.xb_incoming.specs.declared.key.TimedKey.{TimedKey}
 use Rattle.xb_incoming.specs.Machine.{HasTaken, told_by}
@@ -13,10 +13,10 @@ returns-in-Some-clause-written g c = λ limit signs start has.
     let keys = keys_of signs in
     let took = subst (λ (key : TimedKey). HasTaken limit c.take.new.self (keys ++ key ∷ []) (told_by limit keys ++ option_to_list c.take.result))
     c.key.ensures (c.take.ensures limit keys (told_by limit keys) has.taken) in
-    takes-some limit c.args.self.now c.take.new.self signs c.args.sign c.take.result start (g.W.Write.contents c.args.out.now) has
-    took c.tell.new.self c.in-Some.outcome c.tell.result (g.W.Write.contents c.tell.new.out) c.in-Some.is c.tell.ensures.same
+    takes-some limit c.args.self.now c.take.new.self c.key.result.end_ms signs c.args.sign c.take.result start
+    (g.W.Write.contents c.args.out.now) has (ap (λ (key : TimedKey). key.end_ms) c.key.ensures) took c.tell.new.self c.in-Some.outcome c.tell.result (g.W.Write.contents c.tell.new.out) c.in-Some.is c.tell.ensures.same
     (λ calls begun told. subst (λ (is_doubted : Bool).
-    Tells c.tell.new.self (calls ++ call_with c.args.self.now.table is_doubted c.in-Some.outcome ∷ []) c.tell.result begun
+    Tells c.tell.new.self (calls ++ call_with c.args.self.now.table is_doubted c.key.result.end_ms c.in-Some.outcome ∷ []) c.tell.result begun
     (g.W.Write.contents c.tell.new.out)) c.is_doubt-is_doubted.ensures (c.tell.ensures.told calls begun told))
 
 pub returns-in-None-clause-written : goal.returns-in-None-clause-written
@@ -24,5 +24,5 @@ returns-in-None-clause-written g c = λ limit signs start has.
     let keys = keys_of signs in
     let took = subst (λ (key : TimedKey). HasTaken limit c.take.new.self (keys ++ key ∷ []) (told_by limit keys ++ option_to_list c.take.result))
     c.key.ensures (c.take.ensures limit keys (told_by limit keys) has.taken) in
-    takes-none limit c.args.self.now c.take.new.self signs c.args.sign c.take.result start (g.W.Write.contents c.args.out.now) has
-    took c.in-None.is
+    takes-none limit c.args.self.now c.take.new.self c.key.result.end_ms signs c.args.sign c.take.result start
+    (g.W.Write.contents c.args.out.now) has (ap (λ (key : TimedKey). key.end_ms) c.key.ensures) took c.in-None.is

@@ -12,7 +12,7 @@ use Rattle.xb_tandem.proofs.office.Office.tell.Goals as goal
 pub returns-in_err-text-clause-told : goal.returns-in_err-text-clause-told
 returns-in_err-text-clause-told g c = λ calls start told.
     let office = c.args.self.now in
-    let call = call_with office.table c.args.is_doubted c.args.outcome.now in
+    let call = call_with office.table c.args.is_doubted office.last_ms c.args.outcome.now in
     let out = g.W.Write.contents c.args.out.now in
     let p = err_from_is_err_and c.from_residual.result c.from_residual.ensures.1 in
     subst (λ r. Tells office (calls ++ call ∷ []) r start out) (sym p.1)
@@ -21,8 +21,8 @@ returns-in_err-text-clause-told g c = λ calls start told.
 pub returns-in_err-write_whole-clause-told : goal.returns-in_err-write_whole-clause-told
 returns-in_err-write_whole-clause-told g c = λ calls start told.
     let office = c.args.self.now in
-    let call = call_with office.table c.args.is_doubted c.args.outcome.now in
-    let is = ap (λ (order : Order). a_call order c.args.is_doubted) c.order_of-order.ensures in
+    let call = call_with office.table c.args.is_doubted office.last_ms c.args.outcome.now in
+    let is = ap (λ (order : Order). a_call order c.args.is_doubted office.last_ms) c.order_of-order.ensures in
     let mid = g.W.Write.contents c.args.out.now in
     let out = g.W.Write.contents c.write_whole.new.out in
     let p = err_from_is_err_and c.from_residual-in_err-write_whole.result c.from_residual-in_err-write_whole.ensures.1 in
@@ -36,8 +36,8 @@ returns-in_err-write_whole-clause-told g c = λ calls start told.
 pub returns-clause-told : goal.returns-clause-told
 returns-clause-told g c = λ calls start told.
     let office = c.args.self.now in
-    let call = call_with office.table c.args.is_doubted c.args.outcome.now in
-    let is = ap (λ (order : Order). a_call order c.args.is_doubted) c.order_of-order.ensures in
+    let call = call_with office.table c.args.is_doubted office.last_ms c.args.outcome.now in
+    let is = ap (λ (order : Order). a_call order c.args.is_doubted office.last_ms) c.order_of-order.ensures in
     let mid = g.W.Write.contents c.args.out.now in
     let out = g.W.Write.contents c.write_whole.new.out in
     told-more office c.count.new.self calls call start mid told out c.count.ensures.same
