@@ -47,9 +47,12 @@ const stream = (fd) => ({
   stat: () => told(fs.fstatSync(fd)),
 });
 
-// Where a name is in a folder, or by itself where it begins with a drive. NUL of Windows is in no folder.
-const isNul = (name) => path.sep === '\\' && /(^|[\\/])nul$/i.test(name);
-const placed = (folder, name) => (isNul(name) ? devNull : path.resolve(folder, name));
+// Where a name is in a folder, as it stands: what .. and a slash at its end mean is the system's to say. Windows has names
+// that begin with a drive, and its NUL is in no folder.
+const placed = (folder, name) => {
+  if (path.sep === '/') return name.startsWith('/') ? name : `${folder}/${name}`;
+  return /(^|[\\/])nul$/i.test(name) ? devNull : path.resolve(folder, name);
+};
 const { O_APPEND, O_CREAT, O_EXCL, O_RDONLY, O_RDWR, O_TRUNC, O_WRONLY } = fs.constants;
 const disk = {
   placed,
@@ -78,7 +81,7 @@ export const main = (name, given, most) => {
     const output = isTo ? fs.openSync(placed('.', given[1]), 'w') : 1;
     const streams = [stream(0), stream(output), stream(2)];
     const module = new WebAssembly.Module(fs.readFileSync(new URL('mf.wasm', import.meta.url)));
-    const host = { streams, disk, roots: { '.': process.cwd(), '/': path.resolve('/') } };
+    const host = { streams, disk, roots: { '.': '.', '/': path.resolve('/') } };
     return run(module, [name, ...given.slice(isTo ? 2 : 0)], host, most);
   } catch (why) {
     return tells(why.message, why.code ? FAULT : BROKEN);

@@ -17,10 +17,10 @@ with_all-append tally (x ∷ xs) ys = with_all-append (with_one x tally) xs ys
 
 -- the counts are those of what was found
 pub record Counts (tally : Tallied) (found : List Found) : Type 0 where
-  pub many : length tally.counts ≡ 23
-  pub each : (kind : ℕ) → kind < 23 → get_or tally.counts kind 0 ≡ min (how_many kind found) 1000000000
+  pub many : length tally.counts ≡ 24
+  pub each : (kind : ℕ) → kind < 24 → get_or tally.counts kind 0 ≡ min (how_many kind found) 1000000000
 
-below_kinds : (wrong : What) → kind_of wrong < 23
+below_kinds : (wrong : What) → kind_of wrong < 24
 below_kinds what.Table = omega arith
 below_kinds what.TopKey = omega arith
 below_kinds what.LimitKey = omega arith
@@ -44,6 +44,7 @@ below_kinds what.Microseconds = omega arith
 below_kinds what.Nanoseconds = omega arith
 below_kinds what.Ringing = omega arith
 below_kinds what.NumberKey = omega arith
+below_kinds what.Unreached = omega arith
 
 more_of_kind : (kind : ℕ) (found : List Found) (f : Found)
     → how_many kind (found ++ f ∷ []) ≡ how_many kind found + (cond (kind_of f.what == kind) 1 0)
@@ -90,7 +91,7 @@ module _ (tally : Tallied) (found : List Found) (f : Found) (counts : Counts tal
       ap (λ k. get_or counts' k 0) is ∙ at_same
       ∙ sym (ap (λ k. min (how_many k (found ++ f ∷ [])) 1000000000) is)
 
-  at_other : (kind : ℕ) → kind < 23 → (kind ≡ kind' → ⊥)
+  at_other : (kind : ℕ) → kind < 24 → (kind ≡ kind' → ⊥)
       → get_or counts' kind 0 ≡ min (how_many kind (found ++ f ∷ [])) 1000000000
   at_other kind below other =
       get_or-set_other tally.counts kind' kind (min (count' + 1) 1000000000) 0 other ∙ counts.each kind below
@@ -130,7 +131,7 @@ same_all tally (f ∷ later) = same_all (with_one f tally) later
 none_counted : (all : Bool) → Counts (nothing_told all) []
 none_counted all = record {
   many = refl;
-  each = λ kind below. get_or-replicate 23 kind 0 0 below;
+  each = λ kind below. get_or-replicate 24 kind 0 0 below;
 }
 
 -- what is told of a list

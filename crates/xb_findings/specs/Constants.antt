@@ -7,5 +7,5 @@ use Rattle.xb_findings.specs.declared.tally.TheConstants.{KINDS, MOST_COUNTED, T
 pub record AreConstants : Type 0 where
   pub told_of_a_kind : TOLD_OF_A_KIND ≡ 10
   pub most_counted : MOST_COUNTED ≡ 1_000_000_000
-  pub kinds : KINDS ≡ 23
+  pub kinds : KINDS ≡ 24
   pub bounce_ms : BOUNCE_MS ≡ 5

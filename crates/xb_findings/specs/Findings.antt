@@ -88,6 +88,7 @@ what_text what.LimitKey = codes "no rule names this key; here are pulse_min, pul
 what_text what.RouteKey = codes "no rule names this key; here are code, trunk, delete and prefix, and send for mftandem and mfroute"
 what_text what.NumberKey = codes "no rule names this key; here are begins and digits"
 what_text (what.Routes f) = route_words f
+what_text what.Unreached = codes "no number reaches this entry, since longer ones decide of all that begins so"
 what_text what.NearCut = codes "this line is nearly ---; three hyphens have to stand alone, and LF or CR LF after them"
 what_text what.Semicolons = codes "the fields are separated by ; and not by ,"
 what_text what.Tabs = codes "the fields are separated by tabs and not by ,"

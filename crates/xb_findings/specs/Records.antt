@@ -130,6 +130,7 @@ from_field what.LimitKey line = line
 from_field what.RouteKey line = line
 from_field what.NumberKey line = line
 from_field (what.Routes f) line = line
+from_field what.Unreached line = line
 from_field what.NearCut line = line
 from_field what.Semicolons line = line
 from_field what.Tabs line = line

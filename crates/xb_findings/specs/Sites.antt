@@ -9,6 +9,7 @@ use Rattle.xb_routes.specs.declared.fault.NumberFault.{NumberFault}
 use Rattle.xb_routes.specs.declared.fault.NumberFault.TheVariants as rule
 use Rattle.xb_routes.specs.declared.fault.RouteFault.{RouteFault}
 use Rattle.xb_routes.specs.declared.fault.RouteFault.TheVariants as fault
+use Rattle.xb_findings.specs.declared.finding.What.{What}
 use Rattle.xb_findings.specs.declared.finding.What.TheVariants as what
 use Rattle.xb_keys.specs.declared.key.Key.{Key}
 use Rattle.xb_keys.specs.declared.key.Key.TheVariants as key
@@ -181,13 +182,17 @@ or_spot None other = other
 abbrev pub site_of : RouteFault → List Spot → Option Spot
 site_of f spots = or_spot (first_misfit f 0 spots) (first_about f 0 spots)
 
-abbrev pub listed : List ℕ → RouteFault → Option Spot → List Found
-listed deck f None = []
-listed deck f (Some spot) = found_there deck spot.at (what.Routes f, None) ∷ []
+abbrev pub listed : List ℕ → What → Option Spot → List Found
+listed deck wrong None = []
+listed deck wrong (Some spot) = found_there deck spot.at (wrong, None) ∷ []
 
--- what is told of a fault of the route table of a deck: its site
-abbrev pub told_of_table : RouteFault → List ℕ → List Found
-told_of_table f deck = listed deck f (site_of f (spots_of (table_of deck)))
+-- what is told at the site of a fault of the route table of a deck
+abbrev pub told_at_site : RouteFault → What → List ℕ → List Found
+told_at_site f wrong deck = listed deck wrong (site_of f (spots_of (table_of deck)))
+
+-- what is told of an entry of numbers, the first being 1, that no number reaches: it stands at its key `begins`
+abbrev pub told_of_unreached : ℕ → List ℕ → List Found
+told_of_unreached n deck = told_at_site (fault.Number n rule.Begins) what.Unreached deck
 
 -- what is told of the fault by which a text is refused: where no line cuts it, the text lines that are nearly
 -- such a line
@@ -195,6 +200,6 @@ abbrev pub told_of_fault : DeckFault → List ℕ → List Found
 told_of_fault deck_fault.Read deck = []
 told_of_fault deck_fault.TooLong deck = []
 told_of_fault deck_fault.NoCut deck = near_cuts 1 (text_lines deck)
-told_of_fault (deck_fault.Routes f) deck = told_of_table f deck
+told_of_fault (deck_fault.Routes f) deck = told_at_site f (what.Routes f) deck
 told_of_fault (deck_fault.Rows f) deck = []
 told_of_fault deck_fault.NoMemory deck = []

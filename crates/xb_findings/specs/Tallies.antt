@@ -16,7 +16,7 @@ abbrev pub tallied : Tally → Tallied
 tallied tally = record { all = tally.all; told = map found_of tally.told.items; counts = tally.counts }
 
 abbrev pub nothing_told : Bool → Tallied
-nothing_told all = record { all = all; told = []; counts = replicate 23 0 }
+nothing_told all = record { all = all; told = []; counts = replicate 24 0 }
 
 abbrev pub with_one : Found → Tallied → Tallied
 with_one found tally =

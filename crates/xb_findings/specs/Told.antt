@@ -31,13 +31,14 @@ kind_of what.Microseconds = 19
 kind_of what.Nanoseconds = 20
 kind_of what.Ringing = 21
 kind_of what.NumberKey = 22
+kind_of what.Unreached = 23
 
 -- each kind, by one of it
 abbrev pub each_kind : List What
 each_kind = what.Table ∷ what.TopKey ∷ what.LimitKey ∷ what.RouteKey ∷ what.Routes fault.NotToml ∷ what.NearCut
     ∷ what.Semicolons ∷ what.Tabs ∷ what.Header ∷ what.Fields ∷ what.Line ∷ what.State ∷ what.Ms
     ∷ what.Point ∷ what.Ignored 0 ∷ what.Short ∷ what.Quiet ∷ what.Exchanged ∷ what.Seconds ∷ what.Microseconds
-    ∷ what.Nanoseconds ∷ what.Ringing ∷ what.NumberKey ∷ []
+    ∷ what.Nanoseconds ∷ what.Ringing ∷ what.NumberKey ∷ what.Unreached ∷ []
 
 abbrev pub is_of_kind : ℕ → Found → Bool
 is_of_kind kind found = kind_of found.what == kind

@@ -1,7 +1,7 @@
 // Which place of a text its fault is about.
 ghost use Rattle.std.specs.Prelude.{◌≡◌, ◌≤◌, ◌<◌, ◌+◌, ◌^◌, OnOk, length};
 ghost use Rattle.xb_deck.specs.declared.deck.TheConstants.{MOST_DECK_BYTES};
-ghost use Rattle.xb_findings.specs.Sites.{begins_number, begins_text, first_about, first_misfit, in_numbers, is_about, is_about_heading, is_about_key, is_misfit, is_not_toml, is_other_kind, keys_about, limits_about, limits_of_rule, may_begin, number_keys, item_about, item_here, items_after, site_of, told_of_fault, told_of_table};
+ghost use Rattle.xb_findings.specs.Sites.{begins_number, begins_text, first_about, first_misfit, in_numbers, is_about, is_about_heading, is_about_key, is_misfit, is_not_toml, is_other_kind, keys_about, limits_about, limits_of_rule, may_begin, number_keys, item_about, item_here, items_after, site_of, told_at_site, told_of_fault, told_of_unreached};
 ghost use Rattle.xb_findings.specs.Tallies.{tallied, with_all};
 ghost use Rattle.xb_routes.specs.LimitFaults.{limit_fault};
 
@@ -259,22 +259,39 @@ fn site_of(fault: RouteFault, spots: &[Spot]) -> Option<Spot>
     }
 }
 
-// Puts the spot of a deck that a fault of its route table is told at after what was found.
-fn push_told_of_table<'a>(
+// Puts this at the spot of a deck that a fault of its route table is told at after what was found.
+fn push_at_site<'a>(
     alloc: Global,
     tally: &mut Tally<'a>,
     fault: RouteFault,
+    what: What,
     deck: &'a [u8],
 ) -> Result<(), AllocError>
     requires { length deck.now ≤ MOST_DECK_BYTES }
     ensures { OnOk result (tallied tally.new
-        ≡ with_all (tallied tally.old) (told_of_table fault deck.now)) }
+        ≡ with_all (tallied tally.old) (told_at_site fault what deck.now)) }
 {
     let spots = spots_of(alloc, table_of(deck))?;
     if let Some(spot) = site_of(fault, &spots) {
-        tally.push(finding_at(deck, spot.at, What::Routes(fault)))?;
+        tally.push(finding_at(deck, spot.at, what))?;
     }
     Ok(())
+}
+
+/// Puts that no number reaches an entry of numbers, the first being 1, where the entry says what its numbers begin with,
+/// after what was found.
+pub fn push_unreached<'a>(
+    alloc: Global,
+    tally: &mut Tally<'a>,
+    entry: u32,
+    deck: &'a [u8],
+) -> Result<(), AllocError>
+    requires { length deck.now ≤ MOST_DECK_BYTES }
+    ensures { OnOk result (tallied tally.new
+        ≡ with_all (tallied tally.old) (told_of_unreached entry deck.now)) }
+{
+    let place = RouteFault::Number(entry, NumberFault::Begins);
+    push_at_site(alloc, tally, place, What::Unreached, deck)
 }
 
 /// Puts what is told of the fault by which a text is refused after what was found.
@@ -290,7 +307,7 @@ pub fn push_fault<'a>(
 {
     match fault {
         DeckFault::NoCut => push_near_cuts(tally, deck),
-        DeckFault::Routes(fault) => push_told_of_table(alloc, tally, fault, deck),
+        DeckFault::Routes(fault) => { push_at_site(alloc, tally, fault, What::Routes(fault), deck) }
         DeckFault::Read | DeckFault::TooLong | DeckFault::Rows(_) | DeckFault::NoMemory => Ok(()),
     }
 }

@@ -21,6 +21,8 @@ pub enum What {
     NumberKey,
     /// By this the route table is refused.
     Routes(RouteFault),
+    /// The entry of numbers decides of none, since longer ones do.
+    Unreached,
     /// The deck has no line that cuts it, and this one may be meant.
     NearCut,
     /// The fields are separated by semicolons.
@@ -175,6 +177,9 @@ impl What {
             }
             What::NumberKey => "no rule names this key; here are begins and digits",
             What::Routes(fault) => route_words(fault),
+            What::Unreached => {
+                "no number reaches this entry, since longer ones decide of all that begins so"
+            }
             What::NearCut => {
                 "this line is nearly ---; three hyphens have to stand alone, and LF or CR LF after them"
             }

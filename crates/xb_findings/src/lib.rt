@@ -19,6 +19,7 @@
 //! - `push_fault`: what the fault of a refused text is about (`told_of_fault`, `specs/Sites.antt`). For a
 //!   fault of the route table, this is the first place that the walk meets. Where no line cuts the text, it
 //!   is the text lines that are nearly that line (`near_cuts`, `specs/NearCuts.antt`).
+//! - `push_unreached`: the same place of an entry of numbers that none reaches (`told_of_unreached`).
 //! - `Tally`: all that is found is told, or the first ten of each kind and how many more there are (`told`,
 //!   `untold`, `specs/Told.antt`).
 #![tactic(auto)]
@@ -36,10 +37,11 @@ mod table_places;
 mod tally;
 mod text_lines;
 
-pub use fault_places::push_fault;
+pub use fault_places::{push_fault, push_unreached};
 pub use finding::{Finding, What};
 pub use kept_lines::{KeptLine, LineKind};
 pub use records::{push_found, without_key};
 pub use row_lines::{LinesRead, findings, read_lines};
+pub use table_places::table_of;
 pub use tally::{EACH_KIND, TOLD_OF_A_KIND, Tally};
 pub use text_lines::first_line;

@@ -178,6 +178,7 @@ fn from_field(what: What, line: &[u8]) -> &[u8]
         | What::RouteKey
         | What::NumberKey
         | What::Routes(_)
+        | What::Unreached
         | What::NearCut
         | What::Semicolons
         | What::Tabs

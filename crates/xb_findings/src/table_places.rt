@@ -147,7 +147,7 @@ fn line_at(text: &[u8], at: usize, place: Place) -> &[u8]
 }
 
 /// The route table of a deck: what stands before the line that cuts it, or all where none does.
-pub(crate) fn table_of(deck: &[u8]) -> &[u8]
+pub fn table_of(deck: &[u8]) -> &[u8]
     ensures { result.now ≡ spec.table_of deck.now }
 {
     match Deck::cut(deck) {

@@ -13,7 +13,7 @@ pub const TOLD_OF_A_KIND: usize = 10;
 pub(crate) const MOST_COUNTED: usize = 1_000_000_000;
 
 /// How many kinds there are.
-pub(crate) const KINDS: usize = 23;
+pub(crate) const KINDS: usize = 24;
 
 /// Each kind, by one of it.
 pub const EACH_KIND: &[What] = &[
@@ -40,12 +40,13 @@ pub const EACH_KIND: &[What] = &[
     What::Nanoseconds,
     What::Ringing,
     What::NumberKey,
+    What::Unreached,
 ];
 
 // The number of a kind.
 fn kind_of(what: What) -> usize
     ensures number { result ≡ kind_of what }
-    ensures below { result < 23 }
+    ensures below { result < 24 }
 {
     match what {
         What::Table => 0,
@@ -71,6 +72,7 @@ fn kind_of(what: What) -> usize
         What::Nanoseconds => 20,
         What::Ringing => 21,
         What::NumberKey => 22,
+        What::Unreached => 23,
     }
 }
 

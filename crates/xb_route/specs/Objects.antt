@@ -1,10 +1,15 @@
 -- The JSON object that is printed of a number.
-use Rattle.std.specs.Prelude.{ℕ, List, ◌++◌, codes, length}
-use Rattle.serde_json.specs.Data.{Data, array, member, no_members, number, object, string, unsigned}
+use Rattle.std.specs.Prelude.{ℕ, List, ◌++◌, codes, length, Option, Some, None}
+use Rattle.serde_json.specs.Data.{Data, Members, array, member, no_members, number, object, put, string, unsigned}
 use Rattle.serde_json.specs.View.{items_of}
 use Rattle.serde_json.specs.Written.{compact_text}
+use Rattle.xb_model.specs.declared.digits.TheConstants.{NUMBER_DIGITS}
+use Rattle.xb_model.specs.declared.number_entry.NumberEntry.{NumberEntry}
 use Rattle.xb_model.specs.declared.order.Order.{Order}
 use Rattle.xb_model.specs.declared.order.Order.TheVariants as orders
+use Rattle.xb_model.specs.declared.plan.Plan.{Plan}
+use Rattle.xb_model.specs.declared.plan.Plan.TheVariants.{Seven, Ten, By}
+use Rattle.xb_model.specs.NumberEntries.{deciding_entry}
 use Rattle.xb_model.specs.Page.{reason_text}
 use Rattle.xb_route.specs.declared.answer.Answer.{Answer}
 use Rattle.xb_route.specs.declared.answer.Answer.TheVariants.{Dialled, Incomplete, Routed}
@@ -45,6 +50,25 @@ object_of digits Incomplete = object
 object_of digits (Routed dialled order) = object_of_order dialled (left_over digits dialled) order
 object_of digits (Dialled dialled trunk sent) = object_of_pulses dialled (left_over digits dialled) trunk sent
 
--- the object as a line
-abbrev pub object_line : List ℕ → Answer → List ℕ
-object_line digits answer = compact_text (object_of digits answer) ++ codes "\n"
+-- members with how many digits a number has, and with what the entry begins with that decides; with none it has ten
+abbrev pub entry_members : Option NumberEntry → Members → Members
+entry_members None members = put (codes "length") (number (unsigned NUMBER_DIGITS)) members
+entry_members (Some entry) members =
+    put (codes "length") (number (unsigned entry.digits))
+    (put (codes "begins") (string (digits_text entry.begins)) members)
+
+-- an object that also has them
+abbrev pub with_entry : Option NumberEntry → Data → Data
+with_entry entry (object members) = object (entry_members entry members)
+with_entry entry other = other
+
+-- the same where a plan is made of entries; plans Seven and Ten need no member
+abbrev pub with_length : Plan → List NumberEntry → List ℕ → Data → Data
+with_length Seven entries digits value = value
+with_length Ten entries digits value = value
+with_length (By lengths) entries digits value = with_entry (deciding_entry entries digits) value
+
+-- the object as a line, with how the length of its number is known
+abbrev pub object_line : Plan → List NumberEntry → List ℕ → Answer → List ℕ
+object_line plan entries digits answer =
+    compact_text (with_length plan entries digits (object_of digits answer)) ++ codes "\n"

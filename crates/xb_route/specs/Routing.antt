@@ -24,7 +24,8 @@ use Rattle.xb_route.specs.Options.{words_of}
 
 -- the line of a number, by a table and the entries of which its plan is made
 abbrev pub line_of : Bool → Outgoing → List NumberEntry → List ℕ → List ℕ
-line_of json table entries digits = if json then object_line digits (answer_to table digits)
+line_of json table entries digits =
+    if json then object_line table.table.plan entries digits (answer_to table digits)
     else answer_line digits (answer_to table digits) (length_text table.table.plan entries digits)
 
 -- the lines of numbers

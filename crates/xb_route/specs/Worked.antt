@@ -1,15 +1,19 @@
 -- Worked numbers: as they are written, what is done with them, and what is printed.
 use Rattle.std.specs.Prelude.{◌≡◌, ℕ, List, [], ◌∷◌, codes, Ok, Err}
-use Rattle.xb_model.specs.declared.plan.Plan.TheVariants.{Seven}
+use Rattle.xb_model.specs.declared.number_entry.NumberEntry.{NumberEntry}
+use Rattle.xb_model.specs.declared.plan.Lengths.{Lengths}
+use Rattle.xb_model.specs.declared.plan.Plan.TheVariants.{Seven, By}
 use Rattle.xb_model.specs.LawfulLimits.{standard_limits}
 use Rattle.xb_model.specs.Routing.{coded_route}
 use Rattle.xb_model.specs.WorkedRows.{three_routes}
 use Rattle.xb_outgoing.specs.Tables.{Outgoing, outgoing}
 use Rattle.xb_routes.specs.Text.{table_by}
+use Rattle.xb_route.specs.declared.answer.Answer.TheVariants.{Incomplete}
 use Rattle.xb_route.specs.declared.fault.NumberFault.TheVariants as fault
 use Rattle.xb_route.specs.NumberTexts.{number_of_text}
 use Rattle.xb_route.specs.Answers.{answer_to}
 use Rattle.xb_route.specs.Lines.{answer_line}
+use Rattle.xb_route.specs.Notes.{length_text}
 use Rattle.xb_route.specs.Objects.{object_line}
 
 -- numbers as they are written
@@ -29,7 +33,7 @@ abbrev pub plain_line : List ℕ → List ℕ
 plain_line digits = answer_line digits (answer_to worked_table digits) []
 
 abbrev pub json_line : List ℕ → List ℕ
-json_line digits = object_line digits (answer_to worked_table digits)
+json_line digits = object_line Seven [] digits (answer_to worked_table digits)
 
 -- a route that deletes all digits of 411, to a trunk group that takes dial pulses, and one of 611 in MF: a table that
 -- no text writes, since each route of a text keys a digit of a complete number
@@ -62,3 +66,28 @@ pub record ObjectsOfNumbers : Type 0 where
       codes "{\"dialled\":\"611\",\"heard\":3,\"ignored\":\"\",\"outcome\":\"REFUSED\",\"reason\":\"UNKNOWN\"}\n"
   pub incomplete : json_line (2 ∷ 3 ∷ 4 ∷ []) ≡
       codes "{\"dialled\":\"234\",\"heard\":3,\"outcome\":\"INCOMPLETE\"}\n"
+
+-- entries of a club: four digits, and seven of what begins with an 8
+abbrev pub club_entries : List NumberEntry
+club_entries = record { begins = []; digits = 4 } ∷ record { begins = 8 ∷ []; digits = 7 } ∷ []
+
+-- what is printed of digits that complete no number by a list of lengths, whichever it is, that is made of entries
+abbrev pub club_line : Lengths → List NumberEntry → List ℕ → List ℕ
+club_line lengths entries digits = answer_line digits Incomplete (length_text (By lengths) entries digits)
+
+abbrev pub club_object : Lengths → List NumberEntry → List ℕ → List ℕ
+club_object lengths entries digits = object_line (By lengths) entries digits Incomplete
+
+-- which entry decides of digits, as it is printed
+pub record LengthsOfNumbers : Type 0 where
+  pub longest : (lengths : Lengths) → club_object lengths club_entries (8 ∷ 2 ∷ []) ≡
+      codes "{\"begins\":\"8\",\"dialled\":\"82\",\"heard\":2,\"length\":7,\"outcome\":\"INCOMPLETE\"}\n"
+  pub any_other : (lengths : Lengths) → club_object lengths club_entries (4 ∷ []) ≡
+      codes "{\"begins\":\"\",\"dialled\":\"4\",\"heard\":1,\"length\":4,\"outcome\":\"INCOMPLETE\"}\n"
+  pub no_entry : (lengths : Lengths) → club_object lengths [] (4 ∷ []) ≡
+      codes "{\"dialled\":\"4\",\"heard\":1,\"length\":10,\"outcome\":\"INCOMPLETE\"}\n"
+  pub longest_line : (lengths : Lengths) → club_line lengths club_entries (8 ∷ 2 ∷ []) ≡
+      codes "82 INCOMPLETE 2 LENGTH 7 BEGINS 8\n"
+  pub any_other_line : (lengths : Lengths) → club_line lengths club_entries (4 ∷ []) ≡
+      codes "4 INCOMPLETE 1 LENGTH 4\n"
+  pub no_entry_line : (lengths : Lengths) → club_line lengths [] (4 ∷ []) ≡ codes "4 INCOMPLETE 1 LENGTH 10\n"

@@ -6,10 +6,11 @@ ghost use Rattle.xb_route.specs.declared.answer.Answer.TheVariants.{Incomplete};
 ghost use Rattle.xb_route.specs.Objects.{object_line, object_of, object_of_order, object_of_pulses};
 
 use crate::answer::{Answer, left_over};
+use crate::length_members::with_length;
 use serde_json::Value;
 use std::alloc::{AllocError, Global};
 use xb_json::{Member, line_of, object_of as object_with};
-use xb_model::{Digit, Order, Reason, Trunk};
+use xb_model::{Digit, NumberEntry, Order, Plan, Reason, Trunk};
 
 // The object of a number that is keyed.
 fn keyed_object<'a>(
@@ -108,14 +109,18 @@ fn object_of(alloc: Global, digits: &[Digit], answer: &Answer) -> Result<Value, 
     }
 }
 
-/// The object of digits as a line.
+/// The object of digits as a line, with how their length is known by the entries of which a plan is made.
 pub(crate) fn object_line(
     alloc: Global,
+    plan: &Plan,
+    entries: &[NumberEntry],
     digits: &[Digit],
     answer: &Answer,
 ) -> Result<Vec<u8>, AllocError>
-    ensures { IfOk result (λ line. line.items ≡ object_line digits.now answer.now) }
+    ensures { IfOk result (λ line.
+        line.items ≡ object_line plan.now entries.now digits.now answer.now) }
 {
     let object = object_of(alloc, digits, answer)?;
+    let object = with_length(alloc, object, plan, entries, digits)?;
     Ok(line_of(alloc, &object)?.into_bytes())
 }

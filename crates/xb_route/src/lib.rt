@@ -23,6 +23,7 @@ mod answer_line;
 mod answer_object;
 mod fault;
 pub mod laws;
+mod length_members;
 mod length_text;
 mod number;
 mod number_texts;

@@ -89,10 +89,10 @@ fn line_of(
     ensures { IfOk result (λ line. line.items ≡ line_of json table.now entries.now digits.now) }
 {
     let answer = answer_to(table, digits);
+    let plan = table.routes().plan();
     if json {
-        object_line(alloc, digits, &answer)
+        object_line(alloc, &plan, entries, digits, &answer)
     } else {
-        let plan = table.routes().plan();
         let known = length_text(alloc, &plan, entries, digits)?;
         answer_line(alloc, digits, &answer, &known)
     }
