@@ -7,6 +7,7 @@ mod calling;
 mod dialled;
 mod ear;
 mod keyings;
+mod live;
 mod pages;
 mod placed;
 mod sounds;

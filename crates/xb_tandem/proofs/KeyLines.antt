@@ -7,7 +7,7 @@ use Rattle.std.proofs.lemmas.Str.{IsUtf8-from_is_utf8, is_utf8-from_IsUtf8}
 use Rattle.serde_json.specs.Data.{Data}
 use Rattle.serde_json.specs.Read.{read}
 use Rattle.xb_tandem.specs.declared.fault.LineFault.TheVariants as fault
-use Rattle.xb_tandem.specs.declared.lines.TheConstants.{MOST_LINE_BYTES}
+use Rattle.xb_lines.specs.declared.lines.TheConstants.{MOST_LINE_BYTES}
 use Rattle.xb_tandem.specs.KeyLines.{IsFaultOfLine, Said, sign_in, sign_of_data, sign_of_line}
 
 module _ (trusts : Bool) (line : List ℕ) where

@@ -1,6 +1,5 @@
 pub mod Pages
 pub mod KeyLines
-pub mod Reading
 pub mod ObjectValues
 pub mod OneCall
 pub mod ToldCalls

@@ -7,15 +7,16 @@ use Rattle.xb_incoming.specs.Machine.{at_end, phase_after}
 use Rattle.xb_outgoing.specs.Tables.{Outgoing}
 use Rattle.xb_text.specs.Writing.{AppendsBeginning}
 use Rattle.xb_text.proofs.Beginnings.{AppendsBeginning-first, AppendsBeginning-second}
-use Rattle.xb_tandem.specs.declared.fault.ReadingFault.{ReadingFault}
-use Rattle.xb_tandem.specs.declared.fault.ReadingFault.TheVariants as reading
+use Rattle.xb_lines.specs.declared.fault.ReadingFault.{ReadingFault}
+use Rattle.xb_lines.specs.declared.fault.ReadingFault.TheVariants as reading
 use Rattle.xb_tandem.specs.declared.fault.WritingFault.{WritingFault}
 use Rattle.xb_tandem.specs.declared.fault.WritingFault.TheVariants as writing
 use Rattle.xb_tandem.specs.declared.fault.LineFault.{LineFault}
 use Rattle.xb_tandem.specs.declared.fault.LineFault.TheVariants as line_fault
 use Rattle.xb_tandem.specs.declared.fault.TandemFault.{TandemFault}
 use Rattle.xb_tandem.specs.declared.fault.TandemFault.TheVariants as fault
-use Rattle.xb_tandem.specs.declared.lines.TheConstants.{MOST_LINE_BYTES}
+use Rattle.xb_lines.specs.declared.lines.TheConstants.{MOST_LINE_BYTES}
+use Rattle.xb_lines.specs.Lines.{ReadsLine, text_lines}
 use Rattle.xb_tandem.specs.declared.office.Office.{Office}
 use Rattle.xb_tandem.specs.declared.request.Form.{Form}
 use Rattle.xb_tandem.specs.declared.sign.Sign.{Sign}
@@ -24,7 +25,7 @@ use Rattle.xb_tandem.specs.Faults.{of_reading, of_writing}
 use Rattle.xb_tandem.specs.KeyLines.{Said, sign_of_line}
 use Rattle.xb_tandem.specs.Relaying.{BeganLine, BeganPage, IsFresh, IsOfKeys, TakesLine, WritesPage}
 use Rattle.xb_tandem.specs.Signs.{keys_of, last_end, told_so_far, told_with}
-use Rattle.xb_tandem.specs.TextLines.{ReadsLine, Signs, sign_and_rest, sign_read, signs_from, signs_of_text, signs_read, text_lines, with_signs}
+use Rattle.xb_tandem.specs.TextLines.{Signs, sign_and_rest, sign_read, signs_from, signs_of_text, signs_read, with_signs}
 use Rattle.xb_tandem.specs.Written.{Ends, HasWritten}
 use Rattle.xb_tandem.proofs.KeyLines.{line-long}
 use Rattle.xb_tandem.proofs.Written.{none-written}

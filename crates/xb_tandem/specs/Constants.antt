@@ -1,7 +1,7 @@
 -- The numbers that documents and texts name.
 use Rattle.std.specs.Prelude.{◌≡◌}
 use Rattle.xb_incoming.specs.declared.key.TheConstants.{CLEAR_MS, MOST_COUNT, TIME_OUT_MS}
-use Rattle.xb_tandem.specs.declared.lines.TheConstants.{MOST_LINE_BYTES}
+use Rattle.xb_lines.specs.declared.lines.TheConstants.{MOST_LINE_BYTES}
 
 pub record AreConstants : Type 0 where
   pub line : MOST_LINE_BYTES ≡ 65536

@@ -1,8 +1,8 @@
 -- Faults of the table, of reading and of writing, as faults of the office.
 use Rattle.xb_outgoing.specs.declared.fault.TableFault.{TableFault}
 use Rattle.xb_outgoing.specs.declared.fault.TableFault.TheVariants as table
-use Rattle.xb_tandem.specs.declared.fault.ReadingFault.{ReadingFault}
-use Rattle.xb_tandem.specs.declared.fault.ReadingFault.TheVariants as reading
+use Rattle.xb_lines.specs.declared.fault.ReadingFault.{ReadingFault}
+use Rattle.xb_lines.specs.declared.fault.ReadingFault.TheVariants as reading
 use Rattle.xb_tandem.specs.declared.fault.WritingFault.{WritingFault}
 use Rattle.xb_tandem.specs.declared.fault.WritingFault.TheVariants as writing
 use Rattle.xb_tandem.specs.declared.fault.TandemFault.{TandemFault}

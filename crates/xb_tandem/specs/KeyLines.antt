@@ -10,7 +10,7 @@ use Rattle.xb_incoming.specs.declared.key.TimedKey.{TimedKey}
 use Rattle.xb_model.specs.Digits.{digit_of_ascii}
 use Rattle.xb_tandem.specs.declared.fault.LineFault.{LineFault}
 use Rattle.xb_tandem.specs.declared.fault.LineFault.TheVariants as fault
-use Rattle.xb_tandem.specs.declared.lines.TheConstants.{MOST_LINE_BYTES}
+use Rattle.xb_lines.specs.declared.lines.TheConstants.{MOST_LINE_BYTES}
 use Rattle.xb_tandem.specs.declared.sign.Sign.{Sign}
 use Rattle.xb_tandem.specs.declared.sign.Sign.TheVariants as variant
 

@@ -4,6 +4,7 @@ use Rattle.std.specs.Io.KnownBytes.{Appends, Keeps}
 use Rattle.std.specs.Option.{option_to_list}
 use Rattle.xb_command.specs.Files.{Bytes}
 use Rattle.xb_incoming.specs.Machine.{HasTaken}
+use Rattle.xb_lines.specs.Lines.{text_lines}
 use Rattle.xb_outgoing.specs.declared.fault.TableFault.TheVariants as file
 use Rattle.xb_outgoing.specs.Files.{HasTable, IsFaultOfTable}
 use Rattle.xb_outgoing.specs.Tables.{Outgoing}
@@ -16,7 +17,7 @@ use Rattle.xb_tandem.specs.declared.request.Request.{Request}
 use Rattle.xb_tandem.specs.declared.sign.Sign.{Sign}
 use Rattle.xb_tandem.specs.Entries.{calls_of_signs, left_out, page_of_signs, told_of_signs}
 use Rattle.xb_tandem.specs.KeyLines.{sign_of_line}
-use Rattle.xb_tandem.specs.TextLines.{sign_read, signs_of_text, signs_read, text_lines}
+use Rattle.xb_tandem.specs.TextLines.{sign_read, signs_of_text, signs_read}
 use Rattle.xb_tandem.specs.Written.{HasWritten}
 
 -- an office that has taken no sign, and written nothing

@@ -1,11 +1,11 @@
 // Why a text line says no key, and why an office stops.
 ghost use Rattle.std.specs.Prelude.{◌≡◌};
 
-use crate::bytes::Unread;
 use std::alloc::AllocError;
 use std::fmt;
 use thiserror::Error;
 use xb_command::OpenFault;
+use xb_lines::{ReadingFault, Unread};
 use xb_outgoing::{OutgoingFault, TableFault};
 use xb_text::WriteFault;
 
@@ -47,15 +47,6 @@ impl fmt::Display for LineFault {
             LineFault::NoMemory => f.write_str("out of memory"),
         }
     }
-}
-
-/// Why a line is not read.
-#[derive(Clone, Copy, Debug)]
-pub(crate) enum ReadingFault {
-    /// A read failed, an interrupted one too.
-    Read(Unread),
-    /// Memory ran out.
-    NoMemory,
 }
 
 /// Why an entry is not written.
@@ -125,16 +116,6 @@ impl fmt::Display for NoteFault {
             NoteFault::Write => f.write_str("how many calls are not in it could not be told"),
             NoteFault::NoMemory => f.write_str("out of memory"),
         }
-    }
-}
-
-impl From<Unread> for ReadingFault {
-    ghost use Rattle.xb_tandem.specs.declared.fault.ReadingFault.TheVariants.{Read};
-
-    ghost from_gives = { λ unread e. e ≡ Read unread };
-
-    fn from(unread: Unread) -> ReadingFault {
-        ReadingFault::Read(unread)
     }
 }
 

@@ -5,11 +5,11 @@ ghost use Rattle.serde_json.specs.View.{view};
 ghost use Rattle.xb_tandem.specs.KeyLines.{IsFaultOfLine, are_doubts, digit_named, doubt_by, entry_in, key_at, sign_in, sign_of_line, symbol_of_name, timed, whole_in};
 
 use crate::fault::LineFault;
-use crate::lines::MOST_LINE_BYTES;
 use crate::sign::Sign;
 use serde_json::Value;
 use std::alloc::Global;
 use xb_incoming::{Symbol, TimedKey};
+use xb_lines::MOST_LINE_BYTES;
 use xb_model::Digit;
 
 // The digit of a name of one character.

@@ -14,7 +14,6 @@
 //! - `laws::pages_are_tapes`: the page is that of the entries that are keyed or refused, as `mfbank` defines them.
 //! - `laws::pulses_are_heard`: the rows dial the numbers that go out by dial pulses, and every office whose plan
 //!   completes them hears exactly these.
-//! - `Unread`: a read that failed. `bytes.rt` alone makes it, so no other fault is told as one.
 //! - `laws::constants`.
 //! - `attend`: the words by the table of the program, and `relay` of the file of keys that they name, or of the input
 //!   (`AttendsBy` of `xb_command`). The table and the keys are not both standard input: where the words say so, the line of
@@ -23,13 +22,11 @@
 //! What is said of bytes is said of readers whose bytes and writers whose contents a contract can name.
 #![tactic(auto)]
 
-mod bytes;
 mod call;
 mod call_lines;
 mod fault;
 mod key_line;
 pub mod laws;
-mod lines;
 mod objects;
 mod office;
 mod program;
@@ -39,9 +36,8 @@ mod request;
 mod sign;
 mod words;
 
-pub use bytes::Unread;
 pub use fault::{LineFault, TandemFault};
-pub use lines::MOST_LINE_BYTES;
 pub use relaying::relay;
 pub use request::{Asked, Form, Request};
 pub use words::PROGRAM;
+pub use xb_lines::{MOST_LINE_BYTES, Unread};

@@ -6,13 +6,13 @@ ghost use Rattle.xb_tandem.specs.Written.{HasWritten};
 
 use crate::fault::{LineFault, TandemFault};
 use crate::key_line::sign_of_line;
-use crate::lines::next_line;
 use crate::office::Office;
 use crate::request::Request;
 use std::alloc::Global;
 use std::io::{Read, Write};
 use xb_command::Files;
 use xb_incoming::Register;
+use xb_lines::next_line;
 use xb_outgoing::read_table;
 
 // The most text lines that are counted.

@@ -12,6 +12,7 @@ use Rattle.xb_tone.specs.declared.fault.ToneFault.TheVariants as tone
 
 -- of a text line of entries
 abbrev pub line_text : LineFault → List ℕ
+line_text line.TooLong = codes "is longer than 65536 bytes"
 line_text line.NoObject = codes "is no JSON object"
 line_text line.NoKind = codes "has no entry, event or totals of mflive --json"
 line_text line.NoPlace = codes "has an entry without its line, entry and at_ms"
@@ -32,6 +33,7 @@ at_text (timed.Early number) =
     codes "text line " ++ decimal number
     ++ codes " has a time before that of the entry before it: lines have times of their own, --line N takes one"
 at_text timed.Untold = codes "what is cut could not be told"
+at_text timed.TooMany = codes "more than 9223372036854775808 text lines"
 
 -- of a sound that is not written
 abbrev pub tone_text : ToneFault → List ℕ

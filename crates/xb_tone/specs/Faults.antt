@@ -2,6 +2,8 @@
 use Rattle.std.specs.Prelude.{◌≡◌, ◌≢◌, ◌⊎◌}
 use Rattle.xb_text.specs.declared.reading.ReadFault.{ReadFault}
 use Rattle.xb_text.specs.declared.reading.ReadFault.TheVariants as read_fault
+use Rattle.xb_lines.specs.declared.fault.ReadingFault.{ReadingFault}
+use Rattle.xb_lines.specs.declared.fault.ReadingFault.TheVariants as reading_fault
 use Rattle.xb_page.specs.declared.fault.PageFault.{PageFault}
 use Rattle.xb_page.specs.declared.fault.PageFault.TheVariants as page_fault
 use Rattle.xb_sound.specs.declared.sounding.SoundFault.{SoundFault}
@@ -25,6 +27,10 @@ abbrev pub of_sound : SoundFault → ToneFault
 of_sound sound_fault.TooLong = fault.TooLongSound
 of_sound sound_fault.NoMemory = fault.CutShort
 of_sound sound_fault.Write = fault.Write
+
+abbrev pub of_reading : ReadingFault → ToneFault
+of_reading (reading_fault.Read unread) = fault.At at_fault.Read
+of_reading reading_fault.NoMemory = fault.NoMemory
 
 abbrev pub of_text : TextFault → ToneFault
 of_text (text_fault.TextLine n f) = fault.At (at_fault.TextLine n f)

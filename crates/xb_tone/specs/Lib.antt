@@ -11,6 +11,7 @@ pub mod Manners
 pub mod Faults
 pub mod Options
 pub mod Placing
+pub mod Live
 pub mod Sounding
 pub mod Program
 pub mod NoisyKeys

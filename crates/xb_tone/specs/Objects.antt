@@ -1,4 +1,4 @@
--- The entry that a text line tells, as `mflive --json` writes it.
+-- The entry that a text line tells, as `mflive --json` or `mftandem --json` writes it.
 use Rattle.std.specs.Prelude.{ℕ, ◌≡◌, ◌⊎◌, List, [], ◌∷◌, length, if◌then◌else◌, nat_le, nat_lt, bytes_eq, codes, Option, Some, None, is_some, option_and_then, option_map, Result, Ok, Err}
 use Rattle.std.specs.Str.{is_utf8}
 use Rattle.serde_json.specs.Data.{Data}
@@ -54,12 +54,14 @@ keyed_in value =
     option_and_then (λ trunk. option_map (λ digits. orders.Key trunk digits)
     (option_and_then digits_of (text_in (codes "sent") value))) (below_in (codes "trunk") TRUNKS value)
 
+-- on a page what a doubt refuses is mutilated
 abbrev pub reason_named : List ℕ → Option Reason
 reason_named word =
     if bytes_eq word (codes "MUTILATED") then Some Mutilated
     else (if bytes_eq word (codes "UNKNOWN") then Some Unknown
     else (if bytes_eq word (codes "ABANDONED") then Some Abandoned
-    else (if bytes_eq word (codes "TIMEDOUT") then Some TimedOut else None)))
+    else (if bytes_eq word (codes "TIMEDOUT") then Some TimedOut
+    else (if bytes_eq word (codes "DOUBTFUL") then Some Mutilated else None))))
 
 -- its refusal: a reason and a count of one byte
 abbrev pub refused_in : Data → Option Order
@@ -105,9 +107,14 @@ or_no_kind (Some totals) = Ok totals
 abbrev pub other_in : Data → Said
 other_in value = if is_some (get (codes "event") value) then Ok told.Event else or_no_kind (totals_in value)
 
+-- a call by dial pulses has no keys, and is passed over as an event is
+abbrev pub told_as : ℕ → List ℕ → Data → Said
+told_as n outcome value =
+    if bytes_eq outcome (codes "DIALLED") then Ok told.Event else entry_by n (place_in value) (order_in outcome value)
+
 abbrev pub told_of_outcome : ℕ → Data → Option (List ℕ) → Said
 told_of_outcome n value None = other_in value
-told_of_outcome n value (Some outcome) = entry_by n (place_in value) (order_in outcome value)
+told_of_outcome n value (Some outcome) = told_as n outcome value
 
 -- what text line n tells, by what is read of it
 abbrev pub told_in : ℕ → Data → Said

@@ -34,6 +34,7 @@ pub record Say (rows : List Row) (options : Options) : Type 0 where
   pub gap_ms : ReadsNumber (given_by rows (codes "gap")) options.gap_ms
   pub raw : options.raw ≡ is_raw (first_of (codes "format") rows)
   pub timed : ReadsFlag (given_by rows (codes "timed")) options.timed
+  pub live : ReadsFlag (given_by rows (codes "live")) options.live
   pub keys : named options.keys ≡ first_of (codes "keys") rows
   pub manner : SayManner rows options.manner
 
@@ -59,7 +60,7 @@ request_of options =
 abbrev pub is_idle : Options → Bool
 is_idle options =
     if is_some options.keys
-    then is_some options.page || is_some options.line || is_some options.entry || options.timed
+    then is_some options.page || is_some options.line || is_some options.entry || options.timed || options.live
     else has_manner options.manner
 
 abbrev pub request_by : Options → Option Request
@@ -73,6 +74,7 @@ pub record SayAsked (rows : List Row) (asked : Asked) : Type 0 where
   pub request : request_by options ≡ Some asked.request
   pub keys : asked.keys ≡ options.keys
   pub timed : asked.timed ≡ options.timed
+  pub live : asked.live ≡ options.live
 
 -- what clap matched says options that ask for nothing
 abbrev pub AskNothing : List Row → Type 0

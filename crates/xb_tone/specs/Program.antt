@@ -13,7 +13,7 @@ use Rattle.xb_tone.specs.FaultTexts.{tone_text}
 -- exactly the sound of the calls, or of the keys, was written, and what is cut told
 pub record WritesSound (asked : Asked) (old new : Streams) : Type 0 where
   pub judged : JudgesCadence asked.request.cadence (Ok tt)
-  pub sound : Plays asked.request (named asked.keys) asked.timed (Ok tt) old.input new.input old.output
+  pub sound : Plays asked.request (named asked.keys) asked.timed asked.live (Ok tt) old.input new.input old.output
       new.output old.errors new.errors
 
 -- there was a fault, and a line says so, after what is cut
@@ -21,7 +21,7 @@ pub record HasFault (asked : Asked) (program : Program) (old new : Streams) : Ty
   pub fault : ToneFault
   pub told : Option (List ℕ)
   pub judged : JudgesCadence asked.request.cadence (Err fault)
-  pub sound : Plays asked.request (named asked.keys) asked.timed (Err fault) old.input new.input old.output
+  pub sound : Plays asked.request (named asked.keys) asked.timed asked.live (Err fault) old.input new.input old.output
       new.output old.errors told
   pub line : Tells program.name.now (Some (tone_text fault)) told new.errors
 

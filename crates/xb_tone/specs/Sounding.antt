@@ -17,6 +17,7 @@ use Rattle.xb_sound.specs.declared.cadence.Cadence.{Cadence}
 use Rattle.xb_signal.specs.declared.segment.Segment.{Segment}
 use Rattle.xb_signal.specs.Texts.{segments_of_text}
 use Rattle.xb_signal.specs.Writings.{bytes_of as bytes_of_signal, file_length}
+use Rattle.xb_tone.specs.Live.{DeliversLive}
 use Rattle.xb_tone.specs.Placing.{DeliversAt}
 use Rattle.xb_tone.specs.declared.fault.ToneFault.{ToneFault}
 use Rattle.xb_tone.specs.declared.fault.ToneFault.TheVariants as fault
@@ -125,12 +126,14 @@ DeliversKeys request text (Err fault.NoMemory) old new = Keeps old new
 DeliversKeys request text (Err (fault.Cadence f)) old new = Keeps old new
 DeliversKeys request text (Err f) old new = ⊥
 
--- words of keys sound in place of a page, which then is not read, or entries that lie in time do; but for these nothing is
--- told
-abbrev pub Plays : Request → Option (List ℕ) → Bool → Result (Unit {0}) ToneFault → Option (List ℕ) → Option (List ℕ)
+-- words of keys sound in place of a page, which then is not read, or entries that lie in time do, or entries as they come;
+-- but for those that lie in time nothing is told
+abbrev pub Plays : Request → Option (List ℕ) → Bool → Bool → Result (Unit {0}) ToneFault → Option (List ℕ) → Option (List ℕ)
     → Option (List ℕ) → Option (List ℕ) → Option (List ℕ) → Option (List ℕ) → Type 0
-Plays request None false result page left old new errors told =
+Plays request None false false result page left old new errors told =
     Delivers request page result old new × Keeps errors told
-Plays request None true result page left old new errors told = DeliversAt request page result old new errors told
-Plays request (Some text) timed result page left old new errors told =
+Plays request None false true result page left old new errors told =
+    DeliversLive request page result old new × Keeps errors told
+Plays request None true live result page left old new errors told = DeliversAt request page result old new errors told
+Plays request (Some text) timed live result page left old new errors told =
     Keeps page left × DeliversKeys request text result old new × Keeps errors told

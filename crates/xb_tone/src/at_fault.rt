@@ -4,7 +4,8 @@ use crate::LineFault;
 use std::fmt;
 use thiserror::Error;
 
-/// Why entries that lie in time have no sound: the first of these, in this order. No sound was written.
+/// Why entries that lie in time have no sound: the first of these, in this order. No sound was written, but of entries
+/// that sound as they come that of those before.
 #[derive(Clone, Copy, Debug, PartialEq, Eq, Error)]
 pub enum AtFault {
     /// A read of the entries failed, an interrupted one too.
@@ -19,6 +20,8 @@ pub enum AtFault {
     Early(u64),
     /// The lines of the entries that cut the one before them could not be written.
     Untold,
+    /// There are more text lines than can be counted: more than 2^63. The sound of the entries was written.
+    TooMany,
 }
 
 impl fmt::Display for AtFault {
@@ -38,6 +41,7 @@ impl fmt::Display for AtFault {
                 "text line {number} has a time before that of the entry before it: lines have times of their own, --line N takes one"
             ),
             AtFault::Untold => f.write_str("what is cut could not be told"),
+            AtFault::TooMany => f.write_str("more than 9223372036854775808 text lines"),
         }
     }
 }

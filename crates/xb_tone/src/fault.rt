@@ -6,6 +6,7 @@ use crate::at_fault::AtFault;
 use std::alloc::AllocError;
 use std::fmt;
 use thiserror::Error;
+use xb_lines::ReadingFault;
 use xb_page::PageFault;
 use xb_signal::{KeysFault, SignalFault};
 use xb_sound::{CadenceFault, SoundFault};
@@ -98,6 +99,19 @@ impl From<ReadFault> for ToneFault {
             ReadFault::Failed => ToneFault::Read,
             ReadFault::TooLong => ToneFault::TooLong,
             ReadFault::NoMemory => ToneFault::NoMemory,
+        }
+    }
+}
+
+impl From<ReadingFault> for ToneFault {
+    ghost use Rattle.xb_tone.specs.Faults.{of_reading};
+
+    ghost from_gives = { λ fault e. e ≡ of_reading fault };
+
+    fn from(fault: ReadingFault) -> ToneFault {
+        match fault {
+            ReadingFault::Read(_) => ToneFault::At(AtFault::Read),
+            ReadingFault::NoMemory => ToneFault::NoMemory,
         }
     }
 }

@@ -4,6 +4,7 @@ ghost use Rattle.xb_tone.specs.Options.{named};
 ghost use Rattle.xb_tone.specs.Sounding.{DeliversKeys, JudgesCadence, Plays};
 
 use crate::fault::ToneFault;
+use crate::live::play_live;
 use crate::placing::play_at;
 use crate::playing::play;
 use crate::request::{Asked, Request};
@@ -30,7 +31,8 @@ pub fn play_keys<W: Write>(
     Ok(())
 }
 
-// Writes the sound of words of keys, where they are given, or else of entries that lie in time, or of a page's calls.
+// Writes the sound of words of keys, where they are given, or else of entries that lie in time or sound as they come, or of a
+// page's calls.
 pub(crate) fn play_asked<R: Read, W: Write, E: Write>(
     alloc: Global,
     asked: Asked<'_>,
@@ -39,13 +41,14 @@ pub(crate) fn play_asked<R: Read, W: Write, E: Write>(
     err: &mut E,
 ) -> Result<(), ToneFault>
     ensures judged { JudgesCadence asked.entry.request.cadence result }
-    ensures sound { Plays asked.entry.request (named asked.entry.keys) asked.entry.timed result
+    ensures sound { Plays asked.entry.request (named asked.entry.keys) asked.entry.timed asked.entry.live result
         (R.remaining page.old) (R.remaining page.new) (W.contents out.old) (W.contents out.new)
         (E.contents err.old) (E.contents err.new) }
 {
     match asked.keys {
         Some(words) => play_keys(alloc, asked.request, words, out),
         None if asked.timed => play_at(alloc, asked.request, page, out, err),
+        None if asked.live => play_live(alloc, asked.request, page, out),
         None => play(alloc, asked.request, page, out),
     }
 }

@@ -7,6 +7,8 @@
 //! - `play_keys`: the same of words of keys (`xb_signal`). `Keys` comes exactly of the first word that is none, or too
 //!   loud, and nothing is read.
 //! - `play_at`: the same of entries that lie in time, each at its time; what is cut is told before.
+//! - `play_live`: of entries as they come, each whole, one after the other. At a text line that is wrong exactly the
+//!   entries before it have sounded. Memory does not grow with the text.
 //! - `attend`: `AttendsBy` of this, beginning at the words as they are typed.
 //! - `laws::mu_law_keys_are_heard`: keys by mu-law are. `shapes_are_sounded`: a key that is detuned, with one tone late or
 //!   with a hole, sounds as was asked for.
@@ -33,6 +35,7 @@ mod fault;
 mod given;
 mod keying;
 pub mod laws;
+mod live;
 mod misfit;
 mod object;
 mod objects_fault;
@@ -53,6 +56,7 @@ pub use cuts::lines_of_cuts;
 pub use entry::PlacedEntry;
 pub use fault::ToneFault;
 pub use keying::play_keys;
+pub use live::play_live;
 pub use objects_fault::{LineFault, TextFault};
 pub use placing::play_at;
 pub use playing::play;

@@ -1,7 +1,7 @@
 // What a text line tells.
 ghost use Rattle.std.specs.Prelude.{◌≡◌, ◌<◌, IfErr, IfOk, IfSome, Ok, option_map};
 ghost use Rattle.serde_json.specs.View.{view};
-ghost use Rattle.xb_tone.specs.Objects.{IsFaultOfLine, below_in, digits_of, entry_by, keyed_in, order_in, other_in, place_in, reason_named, refused_in, text_in, told_in, told_of_line, totals_in, whole_in};
+ghost use Rattle.xb_tone.specs.Objects.{IsFaultOfLine, below_in, digits_of, entry_by, keyed_in, order_in, other_in, place_in, reason_named, refused_in, text_in, told_as, told_in, told_of_line, totals_in, whole_in};
 
 use crate::entry::PlacedEntry;
 use crate::objects_fault::LineFault;
@@ -79,6 +79,7 @@ fn reason_named(word: &str) -> Option<Reason>
         "UNKNOWN" => Some(Reason::Unknown),
         "ABANDONED" => Some(Reason::Abandoned),
         "TIMEDOUT" => Some(Reason::TimedOut),
+        "DOUBTFUL" => Some(Reason::Mutilated),
         _ => None,
     }
 }
@@ -139,6 +140,16 @@ fn entry_by(number: u64, object: &Value, outcome: &str) -> Result<Told, LineFaul
     }))
 }
 
+// What the object of text line `number` tells, by its outcome: a call by dial pulses has no keys.
+fn told_as(number: u64, object: &Value, outcome: &str) -> Result<Told, LineFault>
+    ensures { result ≡ told_as number outcome.now (view object.now) }
+{
+    if outcome == "DIALLED" {
+        return Ok(Told::Event);
+    }
+    entry_by(number, object, outcome)
+}
+
 // What the object of text line `number` tells.
 fn told_in(number: u64, object: &Value) -> Result<Told, LineFault>
     ensures { result ≡ told_in number (view object.now) }
@@ -147,12 +158,12 @@ fn told_in(number: u64, object: &Value) -> Result<Told, LineFault>
         return Err(LineFault::NoObject);
     }
     match text_in(object, "outcome") {
-        Some(outcome) => entry_by(number, object, outcome),
+        Some(outcome) => told_as(number, object, outcome),
         None => other_in(object),
     }
 }
 
-/// What text line `number` tells, as `mflive --json` writes it.
+/// What text line `number` tells, as `mflive --json` or `mftandem --json` writes it.
 pub(crate) fn told_of_line(alloc: Global, number: u64, line: &[u8]) -> Result<Told, LineFault>
     ensures told { IfOk result (λ told. told_of_line number line.now ≡ Ok told) }
     ensures fault { IfErr result (IsFaultOfLine number line.now) }

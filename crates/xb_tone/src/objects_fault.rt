@@ -9,9 +9,11 @@ use xb_model::RowFault;
 /// Why a text line is wrong.
 #[derive(Clone, Copy, Debug, PartialEq, Eq, Error)]
 pub enum LineFault {
+    /// It has more than 65,536 bytes, where it is read by itself.
+    TooLong,
     /// It is no JSON object.
     NoObject,
-    /// It is no object of an entry, of an event or of the totals, as `mflive --json` writes them.
+    /// It is no object of an entry, of an event or of the totals, as `mflive --json` or `mftandem --json` writes them.
     NoKind,
     /// It has an entry, and `line`, `entry` or `at_ms` is missing, or no such number.
     NoPlace,
@@ -37,6 +39,7 @@ impl fmt::Display for LineFault {
 
     fn fmt<W: fmt::Write>(&self, f: &mut fmt::Formatter<W>) -> fmt::Result {
         match self {
+            LineFault::TooLong => f.write_str("is longer than 65536 bytes"),
             LineFault::NoObject => f.write_str("is no JSON object"),
             LineFault::NoKind => f.write_str("has no entry, event or totals of mflive --json"),
             LineFault::NoPlace => f.write_str("has an entry without its line, entry and at_ms"),

@@ -44,8 +44,8 @@ fn has_asked(choice: Choice, entries: &[PlacedEntry]) -> bool
     false
 }
 
-// Whether an entry is asked for and keyed.
-fn sounds_at(choice: Choice, entry: &PlacedEntry) -> bool
+/// Whether an entry is asked for and keyed.
+pub(crate) fn sounds_at(choice: Choice, entry: &PlacedEntry) -> bool
     ensures { result ≡ sounds_at choice entry.now }
 {
     is_asked(choice, entry) && entry.is_keyed()

@@ -38,4 +38,6 @@ pub struct Asked<'a> {
     pub keys: Option<&'a str>,
     /// Whether entries that lie in time sound in place of a page's calls.
     pub timed: bool,
+    /// Whether entries sound as they come, in place of a page's calls.
+    pub live: bool,
 }

@@ -107,8 +107,8 @@ fn write_up_to<W: Write>(
     Ok(())
 }
 
-// Writes the sound of an entry, up to the time of the next one, if there is one.
-fn write_entry<W: Write>(
+/// Writes the sound of an entry, up to the time of the next one, if there is one.
+pub(crate) fn write_entry<W: Write>(
     alloc: Global,
     out: &mut W,
     cadence: Cadence,

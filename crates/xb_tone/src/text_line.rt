@@ -7,7 +7,7 @@ use crate::entry::PlacedEntry;
 pub(crate) enum Told {
     // An entry.
     Entry(PlacedEntry),
-    // An event, which is passed over.
+    // An event, or a call by dial pulses, which is passed over.
     Event,
     // The totals: how many entries are keyed, and how many are refused.
     Totals(u64, u64),

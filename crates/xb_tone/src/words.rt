@@ -19,6 +19,7 @@ second): of all, of a line's, or of one entry. A refused entry has no sound.
 
     mfbank calls.deck | mftone --line 7 > call.wav
     mflive calls.deck --json | mftone --timed --line 7 > day.wav
+    mfrx trunk.wav --json | mftandem b.toml --json | mftone --live | aplay -f S16_LE -r 8000
 
 The status is 0 for sound, 1 for a fault, 2 where the words are refused, and 141 where the reader of the sound goes
 away.",
@@ -91,6 +92,14 @@ away.",
             help: "PAGE has objects of mflive --json in place of a page: each keying lies at its time, so that KP begins
         the lead after its at_ms, and it is silent between them. One that has not ended when the next one
         comes is cut, which is told. The totals have to be the last object",
+            ..FLAG
+        },
+        Word {
+            name: "live",
+            not_with: &["timed", "keys", "format"],
+            help: "PAGE has objects of mflive --json or mftandem --json in place of a page: each keying sounds as its object
+        comes, whole, one after the other, with nothing between them. The samples alone are written, as those of
+        s16. Totals are passed over",
             ..FLAG
         },
         Word {
@@ -205,6 +214,7 @@ pub(crate) struct Options<'a> {
     pub(crate) gap_ms: Option<u32>,
     pub(crate) raw: bool,
     pub(crate) timed: bool,
+    pub(crate) live: bool,
     pub(crate) keys: Option<&'a str>,
     pub(crate) manner: Manner,
 }
@@ -233,6 +243,7 @@ fn options_of<'a>(words: &Words<'a>) -> Options<'a>
         gap_ms: words.number("gap"),
         raw: is_raw(words.text("format")),
         timed: words.flag("timed"),
+        live: words.flag("live"),
         keys: words.text("keys"),
         manner: manner_of(words),
     }
@@ -273,13 +284,17 @@ fn request_of(options: Options<'_>) -> Option<Request>
     })
 }
 
-// Whether the options say something for nothing: beside words of keys a page, a line, an entry or that entries lie in time,
-// or without them how they are to sound.
+// Whether the options say something for nothing: beside words of keys a page, a line, an entry or that entries lie in time
+// or come, or without them how they are to sound.
 fn is_idle(options: Options<'_>) -> bool
     ensures { result ≡ is_idle options.entry }
 {
     if options.keys.is_some() {
-        options.page.is_some() || options.line.is_some() || options.entry.is_some() || options.timed
+        options.page.is_some()
+            || options.line.is_some()
+            || options.entry.is_some()
+            || options.timed
+            || options.live
     } else {
         has_manner(options.manner)
     }
@@ -296,7 +311,7 @@ fn request_by(options: Options<'_>) -> Option<Request>
     }
 }
 
-/// What the words of a call ask for: all entries of the page, or entries that lie in time, those of a line, or one of
+/// What the words of a call ask for: all entries of the page, or entries that lie in time or come, those of a line, or one of
 /// these, or words of keys in their place, by the standard cadence with each time that is given in place of its own, as a
 /// WAV file or as samples alone. A time over 65,535 ms counts as that.
 pub(crate) fn asked_of<'a>(call: &Call<'a>, words: &Words<'a>) -> Result<Asked<'a>, Misfit<'a>>
@@ -310,6 +325,7 @@ pub(crate) fn asked_of<'a>(call: &Call<'a>, words: &Words<'a>) -> Result<Asked<'
             request,
             keys: options.keys,
             timed: options.timed,
+            live: options.live,
         }),
         None => Err(misfit_of(call, words)),
     }

@@ -36,8 +36,8 @@ const CASES: &[Case] = &[
         &["seven", "--json"],
         KEYS,
         0,
-        b"{\"entry\":1,\"heard\":1,\"line\":0,\"outcome\":\"REFUSED\",\"reason\":\"DOUBTFUL\"}\n\
-{\"entry\":2,\"keys\":[\"KP\",\"0\",\"ST\"],\"line\":0,\"outcome\":\"KEYED\",\"sent\":\"0\",\"trunk\":1}\n\
+        b"{\"at_ms\":474,\"entry\":1,\"heard\":1,\"line\":0,\"outcome\":\"REFUSED\",\"reason\":\"DOUBTFUL\"}\n\
+{\"at_ms\":1314,\"entry\":2,\"keys\":[\"KP\",\"0\",\"ST\"],\"line\":0,\"outcome\":\"KEYED\",\"sent\":\"0\",\"trunk\":1}\n\
 {\"keyed\":1,\"refused\":1}\n",
         b"",
     ),

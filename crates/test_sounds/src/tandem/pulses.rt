@@ -42,10 +42,10 @@ const CASES: &[Case] = &[
         &["pulsed", "--json"],
         KEYS,
         0,
-        b"{\"line\":0,\"outcome\":\"DIALLED\",\"pulses\":\"12\",\"trunk\":30}\n\
-{\"entry\":1,\"keys\":[\"KP\",\"0\",\"ST\"],\"line\":0,\"outcome\":\"KEYED\",\"sent\":\"0\",\"trunk\":1}\n\
-{\"line\":0,\"outcome\":\"DIALLED\",\"pulses\":\"3\",\"trunk\":30}\n\
-{\"entry\":2,\"heard\":1,\"line\":0,\"outcome\":\"REFUSED\",\"reason\":\"UNKNOWN\"}\n\
+        b"{\"at_ms\":884,\"line\":0,\"outcome\":\"DIALLED\",\"pulses\":\"12\",\"trunk\":30}\n\
+{\"at_ms\":1292,\"entry\":1,\"keys\":[\"KP\",\"0\",\"ST\"],\"line\":0,\"outcome\":\"KEYED\",\"sent\":\"0\",\"trunk\":1}\n\
+{\"at_ms\":2108,\"line\":0,\"outcome\":\"DIALLED\",\"pulses\":\"3\",\"trunk\":30}\n\
+{\"at_ms\":2516,\"entry\":2,\"heard\":1,\"line\":0,\"outcome\":\"REFUSED\",\"reason\":\"UNKNOWN\"}\n\
 {\"keyed\":1,\"refused\":1}\n",
         b"",
     ),
@@ -136,10 +136,10 @@ const REFUSING: &[Refusing] = &[
     (
         &["deleting", "--json"],
         FEW,
-        b"{\"line\":0,\"outcome\":\"DIALLED\",\"pulses\":\"2\",\"trunk\":30}\n\
-{\"entry\":1,\"heard\":3,\"line\":0,\"outcome\":\"REFUSED\",\"reason\":\"UNKNOWN\"}\n\
-{\"entry\":2,\"keys\":[\"KP\",\"ST\"],\"line\":0,\"outcome\":\"KEYED\",\"sent\":\"\",\"trunk\":31}\n\
-{\"line\":0,\"outcome\":\"DIALLED\",\"pulses\":\"1\",\"trunk\":30}\n\
+        b"{\"at_ms\":612,\"line\":0,\"outcome\":\"DIALLED\",\"pulses\":\"2\",\"trunk\":30}\n\
+{\"at_ms\":1612,\"entry\":1,\"heard\":3,\"line\":0,\"outcome\":\"REFUSED\",\"reason\":\"UNKNOWN\"}\n\
+{\"at_ms\":2612,\"entry\":2,\"keys\":[\"KP\",\"ST\"],\"line\":0,\"outcome\":\"KEYED\",\"sent\":\"\",\"trunk\":31}\n\
+{\"at_ms\":4020,\"line\":0,\"outcome\":\"DIALLED\",\"pulses\":\"1\",\"trunk\":30}\n\
 {\"keyed\":1,\"refused\":1}\n",
         b"",
     ),

@@ -60,10 +60,10 @@ const PAGES: &[Page] = &[
     (
         &["--json", "seven"],
         KEYS,
-        b"{\"entry\":1,\"keys\":[\"KP\",\"5\",\"6\",\"5\",\"ST\"],\"line\":0,\"outcome\":\"KEYED\",\"sent\":\"565\",\
+        b"{\"at_ms\":748,\"entry\":1,\"keys\":[\"KP\",\"5\",\"6\",\"5\",\"ST\"],\"line\":0,\"outcome\":\"KEYED\",\"sent\":\"565\",\
 \"trunk\":17}\n\
-{\"entry\":2,\"keys\":[\"KP\",\"ST\"],\"line\":0,\"outcome\":\"KEYED\",\"sent\":\"\",\"trunk\":40}\n\
-{\"entry\":3,\"heard\":1,\"line\":0,\"outcome\":\"REFUSED\",\"reason\":\"UNKNOWN\"}\n\
+{\"at_ms\":1428,\"entry\":2,\"keys\":[\"KP\",\"ST\"],\"line\":0,\"outcome\":\"KEYED\",\"sent\":\"\",\"trunk\":40}\n\
+{\"at_ms\":1836,\"entry\":3,\"heard\":1,\"line\":0,\"outcome\":\"REFUSED\",\"reason\":\"UNKNOWN\"}\n\
 {\"keyed\":2,\"refused\":1}\n",
     ),
     // the time-out that is asked for: the KP ends at 68

@@ -227,7 +227,7 @@ const ENTRIES: &[Fault] = &[
         b"{\"at_ms\":1,\"entry\":1,\"line\":7,\"trunk\":17}",
         b"mftone: text line 1 has no entry, event or totals of mflive --json\n",
     ),
-    // what mftandem writes has no time
+    // without its time
     (
         &["--timed"],
         b"{\"entry\":1,\"line\":7,\"outcome\":\"KEYED\",\"sent\":\"5\",\"trunk\":1}",

@@ -2,7 +2,7 @@ use Rattle.std.proofs.Common.{◌∙◌, ◌+◌, Ok, Err, arith, ap, refl, subs
 use Rattle.std.specs.Prelude.{IfErr}
 use Rattle.std.proofs.lemmas.Result.{err_from_is_err_and}
 use Rattle.xb_tandem.specs.Relaying.{IsOfKeys, Relays, TakesLine}
-use Rattle.xb_tandem.specs.TextLines.{ReadsLine}
+use Rattle.xb_lines.specs.Lines.{ReadsLine}
 use Rattle.xb_tandem.proofs.Relayed.{begun-none, comes-same, fresh-written, reading-kind, so_far-end, so_far-end-fault, so_far-fault, so_far-line, so_far-many, so_far-read, so_far-start, writing-kind}
 use Rattle.xb_tandem.proofs.relaying.take_lines.Goals as goal
 

@@ -1,5 +1,5 @@
 // The lines of a text that comes as a stream.
-ghost use Rattle.xb_tandem.specs.TextLines.{ReadsLine};
+ghost use Rattle.xb_lines.specs.Lines.{ReadsLine};
 
 use crate::bytes::read_byte;
 use crate::fault::ReadingFault;
@@ -10,7 +10,7 @@ pub const MOST_LINE_BYTES: usize = 65_536;
 
 /// Reads the next text line, without its line feed, in place of what `line` had, and says whether there is one. Of a
 /// line that is too long it reads so much that it shows.
-pub(crate) fn next_line<R: Read>(reader: &mut R, line: &mut Vec<u8>) -> Result<bool, ReadingFault>
+pub fn next_line<R: Read>(reader: &mut R, line: &mut Vec<u8>) -> Result<bool, ReadingFault>
     ensures { ReadsLine (R.remaining reader.old) (R.remaining reader.new) line.new.items result }
 {
     line.clear();

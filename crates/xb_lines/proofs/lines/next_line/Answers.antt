@@ -1,7 +1,7 @@
 use Rattle.std.proofs.Common.{◌∙◌, ap, arith, subst, sym}
 use Rattle.std.specs.Prelude.{◌==◌}
-use Rattle.xb_tandem.proofs.Reading.{IsReadSoFar, byte_read, none_read, pushed, so_far-byte, so_far-end, so_far-line, so_far-long, so_far-start}
-use Rattle.xb_tandem.proofs.lines.next_line.Goals as goal
+use Rattle.xb_lines.proofs.Reading.{IsReadSoFar, byte_read, none_read, pushed, so_far-byte, so_far-end, so_far-line, so_far-long, so_far-start}
+use Rattle.xb_lines.proofs.lines.next_line.Goals as goal
 
 pub loop-reader-init : goal.loop-reader-init
 loop-reader-init g c =

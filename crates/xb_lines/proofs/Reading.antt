@@ -3,8 +3,8 @@ use Rattle.std.proofs.Common.{◌≡◌, ◌∙◌, ℕ, ◌<◌, Bool, true, fa
 use Rattle.std.specs.Prelude.{◌==◌, if◌then◌else◌, is_err, is_ok, not}
 use Rattle.std.specs.Io.KnownBytes.{Consumes, IsAtEnd}
 use Rattle.std.proofs.lemmas.Bool.{cond-true, cond-false}
-use Rattle.xb_tandem.specs.declared.lines.TheConstants.{MOST_LINE_BYTES}
-use Rattle.xb_tandem.specs.TextLines.{ReadsByte, ReadsLine, lines_after, text_lines}
+use Rattle.xb_lines.specs.declared.lines.TheConstants.{MOST_LINE_BYTES}
+use Rattle.xb_lines.specs.Lines.{ReadsByte, ReadsLine, lines_after, text_lines}
 
 -- so far a text is the line that has begun, and what is left
 abbrev pub IsReadSoFar : Option (List ℕ) → List ℕ → Option (List ℕ) → Type 0

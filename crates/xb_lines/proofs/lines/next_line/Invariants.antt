@@ -1,7 +1,7 @@
 use Rattle.std.proofs.Common.{◌+◌, ◌-◌, length}
-use Rattle.xb_tandem.specs.declared.lines.TheConstants.{MOST_LINE_BYTES}
-use Rattle.xb_tandem.proofs.Reading.{IsReadSoFar}
-use Rattle.xb_tandem.proofs.lines.next_line.Given as goal
+use Rattle.xb_lines.specs.declared.lines.TheConstants.{MOST_LINE_BYTES}
+use Rattle.xb_lines.proofs.Reading.{IsReadSoFar}
+use Rattle.xb_lines.proofs.lines.next_line.Given as goal
 
 abbrev pub invariant-loop-reader : goal.invariant-loop-reader
 invariant-loop-reader g l = IsReadSoFar (g.R.Read.remaining l.fn.reader) l.line.items (g.R.Read.remaining l.reader)

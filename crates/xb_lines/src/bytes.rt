@@ -1,7 +1,7 @@
 // The bytes of a text, and what says that a read failed.
 ghost use Rattle.std.specs.Prelude.{OnErr};
 ghost use Rattle.std.specs.Io.KnownBytes.{Keeps};
-ghost use Rattle.xb_tandem.specs.TextLines.{ReadsByte};
+ghost use Rattle.xb_lines.specs.Lines.{ReadsByte};
 
 use std::io::Read;
 
