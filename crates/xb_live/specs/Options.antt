@@ -68,9 +68,16 @@ abbrev pub goes_with_sound : Options → Bool
 goes_with_sound options = is_some options.start || is_some options.lead_ms || is_some options.kp_ms
     || is_some options.key_ms || is_some options.gap_ms
 
+-- the silence before KP that is asked for: where a wink starts the keys none, unless it is given
+abbrev pub lead_of : Option ℕ → Option ℕ → Option ℕ
+lead_of start (Some lead) = Some lead
+lead_of (Some number) None = Some 0
+lead_of None None = None
+
 -- the standard cadence, with each time that is given in place of its own
 abbrev pub cadence_of : Options → Cadence
-cadence_of options = chosen_cadence options.lead_ms options.kp_ms options.key_ms options.gap_ms
+cadence_of options =
+    chosen_cadence (lead_of options.start options.lead_ms) options.kp_ms options.key_ms options.gap_ms
 
 -- a line of the office
 abbrev pub line_of : ℕ → Option ℕ

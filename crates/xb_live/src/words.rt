@@ -1,6 +1,6 @@
 // The words of the program, and what they ask for.
 ghost use Rattle.std.specs.Prelude.{◌≡◌, IfErr, IfOk};
-ghost use Rattle.xb_live.specs.Options.{AskNothing, Say, SayAsked, asks_entries, cadence_of, form_of, form_with_events, goes_with_sound, objects_since, request_of, start_of};
+ghost use Rattle.xb_live.specs.Options.{AskNothing, Say, SayAsked, asks_entries, cadence_of, form_of, form_with_events, goes_with_sound, lead_of, objects_since, request_of, start_of};
 
 use crate::entry_text::EntryForm;
 use crate::request::{Asked, Request};
@@ -62,8 +62,9 @@ entries goes away. What was printed before a fault stands.",
             value: Value::Text,
             shown: "TIME",
             wants: &["json", "events"],
-            help: "the time of day that the records begin at, with its offset, as 2026-11-25T20:00:00Z or
-        2026-11-25T15:00-05:00; each object then has its times as such too, \"from\" and \"at\", in UTC",
+            help: "the time of day that the records of each line begin at, with its offset, as 2026-11-25T20:00:00Z or
+        2026-11-25T15:00-05:00; each object then has its times as such too, \"from\" and \"at\", in UTC, by
+        the records of its own line alone",
             ..FLAG
         },
         Word {
@@ -88,7 +89,7 @@ entries goes away. What was printed before a fault stands.",
             value: Value::Number(0, u32::MAX),
             shown: "MS",
             wants: &["sound"],
-            help: "the silence before KP (500)",
+            help: "the silence before KP (500; with --start 0)",
             ..FLAG
         },
         Word {
@@ -229,12 +230,23 @@ fn goes_with_sound(options: Options<'_>) -> bool
         || options.gap_ms.is_some()
 }
 
+// The silence before KP that is asked for: where a wink starts the keys none, unless it is given.
+fn lead_of(start: Option<u32>, given: Option<u32>) -> Option<u32>
+    ensures { result ≡ lead_of start given }
+{
+    match (start, given) {
+        (_, Some(lead)) => Some(lead),
+        (Some(_), None) => Some(0),
+        (None, None) => None,
+    }
+}
+
 // The standard cadence, with each time that is given in place of its own.
 fn cadence_of(options: Options<'_>) -> Cadence
     ensures { result ≡ cadence_of options.entry }
 {
     Cadence::chosen(
-        options.lead_ms,
+        lead_of(options.start, options.lead_ms),
         options.kp_ms,
         options.key_ms,
         options.gap_ms,

@@ -10,33 +10,33 @@ use xb_live::{Asked, PROGRAM};
 // The rows after the first ones, how many samples are written, which of them is the first that is not 0, and how many
 // keyings are given up.
 //
-// The number of line 7 is completed at 2060 ms, and its call sounds for 940 ms, of which 500 are its lead.
+// The number of line 7 is completed at 2060 ms, and its call sounds for 440 ms: no lead comes on top of its wink.
 const CASES: &[(&[u8], usize, Option<usize>, usize)] = &[
     // A wink of 200 ms, from 100 ms after that on, ended 100 ms before the row's end.
     (
         b"8,B,2160\n8,M,200\n8,B,100\n7,B,400\n7,M,500\n",
-        27_200,
-        Some(23_681),
+        23_680,
+        Some(19_681),
         0,
     ),
     // The shortest wink and the longest one, the first of them from that moment on.
     (
         b"8,B,2060\n8,M,100\n8,B,1\n7,B,400\n7,M,500\n",
-        27_200,
-        Some(23_681),
+        23_680,
+        Some(19_681),
         0,
     ),
     (
         b"8,B,2040\n8,B,20\n8,M,170\n8,M,180\n8,B,1\n7,B,420\n7,M,480\n",
-        27_360,
-        Some(23_841),
+        23_680,
+        Some(19_841),
         0,
     ),
     // It ended 60 ms before the end of the first row, and 560 before that of the next one.
     (
         b"8,B,2200\n8,M,200\n8,B,1\n7,B,400\n7,M,500\n",
-        31_200,
-        Some(27_681),
+        27_200,
+        Some(23_681),
         0,
     ),
     // Too short, too long, too early, not ended.
@@ -75,8 +75,8 @@ const CASES: &[(&[u8], usize, Option<usize>, usize)] = &[
     ),
     (
         b"7,B,4999\n8,B,6500\n8,M,200\n8,B,100\n7,B,901\n",
-        71_200,
-        Some(67_681),
+        67_200,
+        Some(63_681),
         0,
     ),
     // It waits at the end.
