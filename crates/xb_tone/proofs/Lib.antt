@@ -10,4 +10,4 @@ pub mod MuLawKeys
 pub mod Unset
 pub mod ShapeLaws
 pub mod Placed
-pub mod Live
+pub mod LiveSounds

@@ -23,9 +23,9 @@ const WRONG: &[u8] =
 const KEYING: usize = (100 + 68 + 68) * 16;
 
 // What is written of objects, what is told, and the status.
-fn live(alloc: Global, words: &[&str], objects: &[u8]) -> Result<(Vec<u8>, Vec<u8>, u8), Fail> {
-    let mut line = words_of(alloc, "mftone", words)?;
-    for word in ["--live", "--lead=0", "--gap=0"] {
+fn sound(alloc: Global, words: &[&str], objects: &[u8]) -> Result<(Vec<u8>, Vec<u8>, u8), Fail> {
+    let mut line = words_of(alloc, "mftone", &["--lead=0", "--gap=0"])?;
+    for word in words {
         line.push(word.to_string(alloc)?)?;
     }
     let mut reader = objects;
@@ -37,7 +37,7 @@ fn live(alloc: Global, words: &[&str], objects: &[u8]) -> Result<(Vec<u8>, Vec<u
 
 #[test]
 fn sounds_each_as_it_comes(rt: HostRuntime) -> Result<(), Fail> {
-    let (both, told, status) = live(rt.alloc(), &[], OBJECTS)?;
+    let (both, told, status) = sound(rt.alloc(), &["--live"], OBJECTS)?;
     assert_eq!(rt; status, 0);
     assert!(rt; told.is_empty());
     assert_eq!(rt; both.len(), 2 * KEYING);
@@ -45,18 +45,30 @@ fn sounds_each_as_it_comes(rt: HostRuntime) -> Result<(), Fail> {
     // KP begins with a sample of 0, and with one that is not
     assert_eq!(rt; &both[..2], [0, 0].as_slice());
     assert!(rt; &both[2..4] != [0, 0].as_slice());
-    let (one, _, status) = live(rt.alloc(), &["--line=0", "--entry=3"], OBJECTS)?;
+    let (one, _, status) = sound(rt.alloc(), &["--live", "--line=0", "--entry=3"], OBJECTS)?;
     assert_eq!(rt; status, 0);
     assert_eq!(rt; one.as_slice(), &both[..KEYING]);
-    let (none, _, status) = live(rt.alloc(), &[], b"{\"keyed\":0,\"refused\":0}\n")?;
+    let (none, _, status) = sound(rt.alloc(), &["--live"], b"{\"keyed\":0,\"refused\":0}\n")?;
     assert_eq!(rt; status, 0);
     assert!(rt; none.is_empty());
     Ok(())
 }
 
+// At its time the last one begins at 2,400 ms.
+#[test]
+fn sounds_what_an_office_tells_at_its_time(rt: HostRuntime) -> Result<(), Fail> {
+    let (all, told, status) = sound(rt.alloc(), &["--timed", "--format=s16"], OBJECTS)?;
+    assert_eq!(rt; status, 0);
+    assert!(rt; told.is_empty());
+    assert_eq!(rt; all.len(), 2_400 * 16 + KEYING);
+    let (last, _, _) = sound(rt.alloc(), &["--live", "--line=0", "--entry=3"], OBJECTS)?;
+    assert_eq!(rt; &all[2_400 * 16..], last.as_slice());
+    Ok(())
+}
+
 #[test]
 fn sounds_what_comes_before_a_fault(rt: HostRuntime) -> Result<(), Fail> {
-    let (out, told, status) = live(rt.alloc(), &[], WRONG)?;
+    let (out, told, status) = sound(rt.alloc(), &["--live"], WRONG)?;
     assert_eq!(rt; status, 1);
     assert_eq!(rt; out.len(), KEYING);
     assert_eq!(rt; told.as_slice(), b"mftone: text line 2 is no JSON object\n".as_slice());
