@@ -12,6 +12,8 @@ use Rattle.xb_lines.specs.declared.fault.ReadingFault.TheVariants as reading
 use Rattle.xb_lines.specs.declared.lines.TheConstants.{MOST_LINE_BYTES}
 use Rattle.xb_lines.specs.Lines.{ReadsLine, text_lines}
 use Rattle.xb_sound.specs.declared.cadence.Cadence.{Cadence}
+use Rattle.xb_sound.specs.declared.sounding.SoundFault.{SoundFault}
+use Rattle.xb_sound.specs.declared.sounding.SoundFault.TheVariants as sound_fault
 use Rattle.xb_sound.specs.Cadences.{IsLawful}
 use Rattle.xb_sound.specs.Wavs.{pcm_of, sample_bytes}
 use Rattle.xb_text.specs.Writing.{AppendsBeginning}
@@ -24,7 +26,8 @@ use Rattle.xb_tone.specs.declared.objects_fault.LineFault.{LineFault}
 use Rattle.xb_tone.specs.declared.objects_fault.LineFault.TheVariants as line_fault
 use Rattle.xb_tone.specs.declared.request.Request.{Request}
 use Rattle.xb_tone.specs.declared.text_line.Told.{Told}
-use Rattle.xb_tone.specs.Faults.{of_reading}
+use Rattle.xb_tone.specs.declared.text_line.Told.TheVariants as tells
+use Rattle.xb_tone.specs.Faults.{of_reading, of_sound}
 use Rattle.xb_tone.specs.Live.{DeliversLive, SoundsLine, SoundsText, before_wrong, entries_live, entry_of, first_wrong, live_bytes, or_later, said_of}
 use Rattle.xb_tone.specs.Objects.{IsFaultOfLine, Said, told_of_line}
 use Rattle.xb_tone.specs.Placing.{entries_chosen, sounds_at}
@@ -105,6 +108,16 @@ module _ (request : Request) where
 -- nothing was written, which begins all
 pub nothing-begun : (old : Option (List ℕ)) (bytes : List ℕ) → AppendsBeginning old old bytes
 nothing-begun old bytes = (0, Appends-nil old)
+
+-- the beginning of an entry has sounded
+pub begun-entry : (request : Request) (n : ℕ) (line : List ℕ) (entry : PlacedEntry) (f : SoundFault) (old new : Option (List ℕ))
+    → said_of n line ≡ Ok (tells.Entry entry) → (f ≡ sound_fault.TooLong → ⊥)
+    → AppendsBeginning old new (live_bytes request (entry ∷ [])) → SoundsLine request n line (Err (of_sound f)) old new
+begun-entry request n line entry sound_fault.TooLong old new is fits part = absurd (fits refl)
+begun-entry request n line entry sound_fault.NoMemory old new is fits part =
+    subst (λ (said : Said). AppendsBeginning old new (live_bytes request (before_wrong said []))) (sym is) part
+begun-entry request n line entry sound_fault.Write old new is fits part =
+    subst (λ (said : Said). AppendsBeginning old new (live_bytes request (before_wrong said []))) (sym is) part
 
 -- so far these entries of a text have sounded, and the next line has this number
 pub record SoFar (request : Request) (n : ℕ) (text rest : List ℕ) (start out : Option (List ℕ)) : Type 0 where

@@ -14,7 +14,7 @@ use Rattle.xb_tone.specs.declared.objects_fault.LineFault.{LineFault}
 use Rattle.xb_tone.specs.declared.objects_fault.LineFault.TheVariants as line_fault
 use Rattle.xb_tone.specs.declared.request.Request.{Request}
 use Rattle.xb_tone.specs.declared.text_line.Told.{Told}
-use Rattle.xb_tone.specs.declared.text_line.Told.TheVariants as told
+use Rattle.xb_tone.specs.declared.text_line.Told.TheVariants as tells
 use Rattle.xb_tone.specs.Objects.{Said, told_of_line}
 use Rattle.xb_tone.specs.Placing.{entries_chosen}
 use Rattle.xb_tone.specs.Sounds.{entry_sound}
@@ -25,9 +25,9 @@ said_of n line = if nat_le (length line) MOST_LINE_BYTES then told_of_line n lin
 
 -- the entry that is told, if one is
 abbrev pub entry_of : Told → List PlacedEntry
-entry_of (told.Entry entry) = entry ∷ []
-entry_of told.Event = []
-entry_of (told.Totals keyed refused) = []
+entry_of (tells.Entry entry) = entry ∷ []
+entry_of tells.Event = []
+entry_of (tells.Totals keyed refused) = []
 
 abbrev pub before_wrong : Said → List PlacedEntry → List PlacedEntry
 before_wrong (Err f) later = []
