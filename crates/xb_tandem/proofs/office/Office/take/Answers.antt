@@ -14,7 +14,8 @@ returns-in-Some-clause-written g c = λ limit signs start has.
     let took = subst (λ (key : TimedKey). HasTaken limit c.take.new.self (keys ++ key ∷ []) (told_by limit keys ++ option_to_list c.take.result))
     c.key-key.ensures (c.take.ensures limit keys (told_by limit keys) has.taken) in
     takes-some limit c.args.self.now c.take.new.self c.key-key.result.end_ms signs c.args.sign c.take.result start
-    (g.W.Write.contents c.args.out.now) has (ap (λ (key : TimedKey). key.end_ms) c.key-key.ensures) took c.tell.new.self c.in-Some.outcome c.tell.result (g.W.Write.contents c.tell.new.out) c.in-Some.is c.tell.ensures.same
+    (g.W.Write.contents c.args.out.now) has (ap (λ (key : TimedKey). key.end_ms) c.key-key.ensures) took
+    c.tell.new.self c.in-Some.outcome c.tell.result (g.W.Write.contents c.tell.new.out) c.in-Some.is c.tell.ensures.same
     (λ calls begun told. subst (λ (is_doubted : Bool).
     Tells c.tell.new.self (calls ++ call_with c.args.self.now.table is_doubted c.key-key.result.end_ms c.in-Some.outcome ∷ []) c.tell.result begun
     (g.W.Write.contents c.tell.new.out)) c.is_doubt-is_doubted.ensures (c.tell.ensures.told calls begun told))
