@@ -228,7 +228,7 @@ begun request n line text rest (Some left) start mid out so (inr long) part =
     begun-long request n text rest start mid so line long.1.0 long.1.1.0 out long.0 long.1.1.1 part
 
 -- the fault of what a line tells
-fault_in : Said → LineFault
+abbrev fault_in : Said → LineFault
 fault_in (Err f) = f
 fault_in (Ok told) = line_fault.NoMemory
 

@@ -93,10 +93,11 @@ pub fn play_live<R: Read, W: Write>(
     request.cadence.check()?;
     let mut line = Vec::new(alloc);
     for before in 0..MOST_LINES {
-        if !next_line(objects, &mut line)? {
+        if next_line(objects, &mut line)? {
+            take_line(alloc, request, before + 1, &line, out)?;
+        } else {
             return Ok(());
         }
-        take_line(alloc, request, before + 1, &line, out)?;
     }
     Err(ToneFault::At(AtFault::TooMany))
 }
