@@ -71,12 +71,19 @@ fn sounds_what_comes_before_a_fault(rt: HostRuntime) -> Result<(), Fail> {
     let (out, told, status) = sound(rt.alloc(), &["--live"], WRONG)?;
     assert_eq!(rt; status, 1);
     assert_eq!(rt; out.len(), KEYING);
-    assert_eq!(rt; told.as_slice(), b"mftone: text line 2 is no JSON object\n".as_slice());
+    assert_eq!(rt;
+        told.as_slice(),
+        b"mftone: text line 2 is no JSON object\n".as_slice()
+    );
     Ok(())
 }
 
 const FAULTS: &[Fault] = &[
-    (&["--live"], b"\n", b"mftone: text line 1 is no JSON object\n"),
+    (
+        &["--live"],
+        b"\n",
+        b"mftone: text line 1 is no JSON object\n",
+    ),
     (
         &["--live"],
         b"{\"entry\":1,\"line\":7,\"outcome\":\"KEYED\",\"sent\":\"5\",\"trunk\":1}\n",
@@ -88,5 +95,12 @@ const FAULTS: &[Fault] = &[
 fn tells_what_is_wrong(rt: HostRuntime) -> Result<(), Fail> {
     check_faults(rt.alloc(), &Mftone, FAULTS)?;
     let line = b"mftone: the entries could not be read\n";
-    check_reads(rt.alloc(), &Mftone, &["--live"], b"{\"event\":\"SEIZED\"}\n", &[0, 1, 18], line)
+    check_reads(
+        rt.alloc(),
+        &Mftone,
+        &["--live"],
+        b"{\"event\":\"SEIZED\"}\n",
+        &[0, 1, 18],
+        line,
+    )
 }
