@@ -376,6 +376,20 @@ static void try_texts(void)
     refuses_text("[[route]]\ncode = \"0\"\ntrunk = 1\ndelete = 1\n", MF_NOTHING_TO_KEY, "route 1 keys no digit");
     refuses_text("[[route]]\ncode = \"0\"\ntrunk = 1\n[[route]]\ncode = \"0\"\ntrunk = 2\n", MF_CODE_TWICE,
                  "route 2 repeats a code");
+    refuses_text("plan = 7\n[[number]]\nbegins = \"\"\ndigits = 4\n", MF_PLAN_AND_NUMBER, "both plan and number");
+    char many[101 * 34 + 1] = "";
+    for (int entry = 0; entry < 101; entry++)
+        strcat(many, "[[number]]\nbegins = \"\"\ndigits = 4\n");
+    refuses_text(many, MF_MANY_NUMBERS, "more than 100 numbers");
+    refuses_text("[[number]]\nbegins = \"\"\n", MF_NUMBER_SHAPE, "number 1 has a wrong shape");
+    refuses_text("number = 4\n", MF_NUMBER_SHAPE, "number 0 has a wrong shape");
+    refuses_text("[[number]]\nbegins = \"4111\"\ndigits = 4\n", MF_NUMBER_BEGINS, "number 1 has a wrong begins");
+    refuses_text("[[number]]\nbegins = \"4\"\ndigits = 11\n", MF_NUMBER_DIGITS, "number 1 has wrong digits");
+    refuses_text("[[number]]\nbegins = \"41\"\ndigits = 1\n", MF_NUMBER_SHORT, "number 1 is shorter than its begins");
+    refuses_text("[[number]]\nbegins = \"4\"\ndigits = 4\n[[number]]\nbegins = \"4\"\ndigits = 5\n", MF_NUMBER_TWICE,
+                 "number 2 repeats a begins");
+    refuses_text("[[number]]\nbegins = \"4\"\ndigits = 2\n[[number]]\nbegins = \"411\"\ndigits = 3\n",
+                 MF_NUMBER_OUTGROWN, "number 1 is shorter than a longer begins");
     check(mf_open("plan = 8\n", 9, &table, few, sizeof few) == MF_WRONG_PLAN && strcmp(few, "pla") == 0,
           "the text of a fault is cut to its room");
     check(mf_open("plan = 8\n", 9, &table, few, 0) == MF_WRONG_PLAN, "no room for a fault");

@@ -78,7 +78,13 @@ isize write(int fd, const void *from, usize length) {
 }
 isize __write(int fd, const void *from, usize length) { return write(fd, from, length); }
 void *__sysv_signal(int number, void *handler) { (void)number; (void)handler; return 0; }
-int close(int fd) { return done_or(wasi_fd_close((u32)fd)); }
+/* How far folders were read that are open. */
+static struct { int fd; u64 cookie; } listed[16];
+int close(int fd) {
+    for (int slot = 0; slot < 16; slot++)
+        if (listed[slot].fd == fd) listed[slot].fd = 0;
+    return done_or(wasi_fd_close((u32)fd));
+}
 int fsync(int fd) {
     u32 why = wasi_fd_sync((u32)fd);
     return done_or(why == NOT_SUPPORTED ? 0 : why);
@@ -98,6 +104,7 @@ struct reached { u32 at, length; const char *rest; };
 static int reaches(int dir, const char *path, struct reached *to) {
     static char name[4096];
     u32 longest = 0, found = 0, stat[2];
+    if (!*path) return fails(NOT_FOUND);
     *to = (struct reached){(u32)dir, (u32)length_of(path), path};
     if (dir != -100 && path[0] != '/') return 0;
     for (u32 at = 3; wasi_fd_prestat_get(at, place(stat)) == 0; at++) {
@@ -157,13 +164,15 @@ int rename(const char *from, const char *into) {
 
 /* Linux's statx, of what the programs ask: kind and size. */
 int statx(int dir, const char *path, int flags, int mask, char *to) {
+    enum { NO_FOLLOW = 0x100, EMPTY_PATH = 0x1000 };
     u64 got[8] = {0};
     struct reached at;
     u32 why;
     (void)mask;
-    if (*path && reaches(dir, path, &at)) return -1;
-    if (*path) why = wasi_path_filestat_get(at.at, flags & 0x100 ? 0 : 1, place(at.rest), at.length, place(got));
-    else why = wasi_fd_filestat_get((u32)dir, place(got));
+    int is_open = !*path && flags & EMPTY_PATH;
+    if (!is_open && reaches(dir, path, &at)) return -1;
+    if (is_open) why = wasi_fd_filestat_get((u32)dir, place(got));
+    else why = wasi_path_filestat_get(at.at, flags & NO_FOLLOW ? 0 : 1, place(at.rest), at.length, place(got));
     if (why) return fails(why);
     unsigned char kind = (unsigned char)got[2];
     for (int i = 0; i < 256; i++) to[i] = 0;
@@ -178,12 +187,11 @@ int statx(int dir, const char *path, int flags, int mask, char *to) {
 
 /* Linux's getdents64. Where a folder was read last, the next call goes on. */
 isize getdents64(int fd, char *to, usize room) {
-    static struct { int fd; u64 cookie; } at[16];
     static u64 raw[1024];
     int slot = 0;
-    while (slot < 15 && at[slot].fd != fd && at[slot].fd) slot++;
-    if (at[slot].fd != fd) at[slot].fd = fd, at[slot].cookie = 0;
-    u32 used = 0, why = wasi_fd_readdir((u32)fd, place(raw), sizeof raw, at[slot].cookie, place(&used));
+    while (slot < 15 && listed[slot].fd != fd && listed[slot].fd) slot++;
+    if (listed[slot].fd != fd) listed[slot].fd = fd, listed[slot].cookie = 0;
+    u32 used = 0, why = wasi_fd_readdir((u32)fd, place(raw), sizeof raw, listed[slot].cookie, place(&used));
     if (why) return fails(why);
     usize made = 0;
     for (u32 i = 0; i + 24 <= used;) {
@@ -198,11 +206,11 @@ isize getdents64(int fd, char *to, usize room) {
         out[18] = it[20] == 3 ? 4 : it[20] == 4 ? 8 : it[20] == 7 ? 10 : 0;
         for (u32 k = 0; k < n; k++) out[19 + k] = it[24 + k];
         for (usize k = 19 + n; k < need; k++) out[k] = 0;
-        at[slot].cookie = *(u64 *)it;
+        listed[slot].cookie = *(u64 *)it;
         made += need;
         i += 24 + n;
     }
-    if (!made) at[slot].fd = 0;
+    if (!made) listed[slot].fd = 0;
     return (isize)made;
 }
 

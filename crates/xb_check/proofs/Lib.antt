@@ -1,2 +1,3 @@
 mod ReportTexts
 mod Doubting
+mod Reached

@@ -3,6 +3,7 @@ pub mod Alone
 pub mod FaultTexts
 pub mod Judged
 pub mod Doubts
+pub mod Unreached
 pub mod Reports
 pub mod TallyTexts
 pub mod Named

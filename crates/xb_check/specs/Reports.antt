@@ -16,6 +16,7 @@ use Rattle.xb_findings.specs.Findings.{Found, kind_text, note_text, what_text}
 use Rattle.xb_check.specs.Judged.{IsVerdict, judged}
 use Rattle.xb_findings.specs.Sites.{told_of_fault}
 use Rattle.xb_findings.specs.Told.{each_kind, kind_of, told, untold}
+use Rattle.xb_check.specs.Unreached.{unreached_in}
 use Rattle.xb_deck.specs.Contents.{Contents}
 
 -- a byte as it is shown: what is not printable ASCII is a question mark
@@ -36,11 +37,11 @@ abbrev pub found_text : List ℕ → Found → List ℕ
 found_text name found =
     place_text name found ++ note_text found ++ codes ": " ++ shown found.text ++ codes "\n"
 
--- what is told of a text after its text lines, by what was judged of it: what is suspicious in a deck that is taken, or
--- the text lines that its fault is about
+-- what is told of a text after its text lines, by what was judged of it: what no number reaches in a table that is
+-- taken, and what is suspicious in a deck that is; or the text lines that its fault is about
 abbrev pub told_of : Result (Option Contents) DeckFault → List ℕ → List Found
-told_of (Ok None) deck = []
-told_of (Ok (Some contents)) deck = doubts_of contents deck
+told_of (Ok None) deck = unreached_in deck
+told_of (Ok (Some contents)) deck = unreached_in deck ++ doubts_of contents deck
 told_of (Err f) deck = told_of_fault f deck
 
 -- how many more there are, in words

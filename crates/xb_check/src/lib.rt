@@ -6,6 +6,8 @@
 //!   refuses it, the first in its order (`contents_of` of `xb_deck`, which `mfbank` goes by too). A text that
 //!   no line cuts may be a route table alone (`is_table`, `specs/Alone.antt`). It is then read as the table
 //!   of a deck (`judged`).
+//! - Of a table that is taken each entry of numbers is told that no number reaches, since longer ones decide of
+//!   all that begins so (`unreached_in`, `specs/Unreached.antt`).
 //! - A deck that is taken is then told of as a whole, at the text lines that were kept (`doubts_of`,
 //!   `specs/Doubts.antt`). Each line of the office with rows but no make that is heard is told at its first
 //!   record, and each whose makes and breaks look exchanged (`Lines` of `xb_doubts`). At the header
@@ -28,6 +30,7 @@ pub mod laws;
 mod program;
 mod reporting;
 mod table_alone;
+mod unreached;
 mod words;
 
 pub use checking::check;

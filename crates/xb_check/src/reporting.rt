@@ -4,14 +4,17 @@ ghost use Rattle.xb_deck.specs.declared.deck.TheConstants.{MOST_DECK_BYTES};
 ghost use Rattle.std.specs.List.{flat_map};
 ghost use Rattle.xb_findings.specs.declared.finding.What.TheVariants as what;
 ghost use Rattle.xb_findings.specs.Findings.{closed_text, found_of, meant_text, note_text};
+ghost use Rattle.xb_check.specs.Doubts.{doubts_in};
 ghost use Rattle.xb_check.specs.Judged.{judged};
 ghost use Rattle.xb_findings.specs.Kept.{kept_of_deck, kept_line_of};
 ghost use Rattle.xb_check.specs.Reports.{count_words, found_text, more_text, more_words, place_text, report_text, shown, told_of, visible};
 ghost use Rattle.xb_findings.specs.Tallies.{tallied, untold_of, with_all};
 ghost use Rattle.xb_check.specs.TallyTexts.{more_of, text_of_tally};
+ghost use Rattle.xb_check.specs.Unreached.{unreached_in};
 
 use crate::deck_contents::Contents;
 use crate::doubts::push_doubts;
+use crate::unreached::push_unreached_in;
 use std::alloc::{AllocError, Global};
 use xb_deck::DeckFault;
 use xb_findings::{EACH_KIND, Finding, KeptLine, LinesRead, Tally, What, push_fault, read_lines};
@@ -219,6 +222,22 @@ fn text_of_both(
     Ok(out)
 }
 
+// Puts what is told of a deck with these contents, which is taken, after the others.
+fn push_taken<'a>(
+    alloc: Global,
+    tally: &mut Tally<'a>,
+    contents: &Contents,
+    deck: &'a [u8],
+    kept: &[KeptLine<'a>],
+) -> Result<(), AllocError>
+    requires { length deck.now ≤ MOST_DECK_BYTES }
+    ensures { OnOk result (tallied tally.new ≡ with_all (tallied tally.old)
+        (unreached_in deck.now ++ doubts_in contents.now (map kept_line_of kept.now))) }
+{
+    push_unreached_in(alloc, tally, deck)?;
+    push_doubts(alloc, tally, contents, kept)
+}
+
 // Puts what is told of a text as a whole, by what was judged of it and the text lines that were kept, after the others.
 fn push_told<'a>(
     alloc: Global,
@@ -232,8 +251,8 @@ fn push_told<'a>(
     ensures { OnOk result (tallied tally.new ≡ with_all (tallied tally.old) (told_of said.now deck.now)) }
 {
     match said {
-        Ok(Some(contents)) => push_doubts(alloc, tally, contents, kept),
-        Ok(None) => Ok(()),
+        Ok(Some(contents)) => push_taken(alloc, tally, contents, deck, kept),
+        Ok(None) => push_unreached_in(alloc, tally, deck),
         Err(fault) => push_fault(alloc, tally, *fault, deck),
     }
 }

@@ -1,5 +1,5 @@
--- The wires of a recording, a line each.
-use Rattle.std.specs.Prelude.{ℕ, ◌+◌, List, [], ◌∷◌, ◌++◌, Bool, true, false, Option, Some, None, codes, decimal, map, option_map, slice_get, string_bytes}
+-- The wires of a recording, a line each, or all in one line.
+use Rattle.std.specs.Prelude.{ℕ, ◌+◌, ◌==◌, if◌then◌else◌, List, [], ◌∷◌, ◌++◌, Bool, true, false, Option, Some, None, codes, decimal, map, option_map, slice_get, string_bytes}
 use Rattle.xb_command.specs.FaultTexts.{one_line}
 use Rattle.xb_loop.specs.declared.listing.Listing.{Listing}
 
@@ -26,6 +26,35 @@ lines_from edges wire (name ∷ names) = wire_line name (edges_at edges wire) ++
 abbrev pub listing_text : Listing → List ℕ
 listing_text listing =
     lines_from (option_map (λ all. all.items) listing.edges) 0 (map string_bytes listing.wires.names.items)
+
+-- the edges of a wire in a line of them, where they were counted
+abbrev pub edges_told : Option ℕ → List ℕ
+edges_told None = []
+edges_told (Some edges) = if edges == 1 then codes " (1 edge)" else codes " (" ++ decimal edges ++ codes " edges)"
+
+-- each wire but the first stands after a comma
+abbrev pub comma_before : ℕ → List ℕ
+comma_before wire = if wire == 0 then [] else codes ", "
+
+abbrev pub wire_told : ℕ → List ℕ → Option ℕ → List ℕ
+wire_told wire name edges = comma_before wire ++ one_line name ++ edges_told edges
+
+-- wires in a line, the first of which has this number
+abbrev pub wires_from : Option (List ℕ) → ℕ → List (List ℕ) → List ℕ
+wires_from edges wire [] = []
+wires_from edges wire (name ∷ names) = wire_told wire name (edges_at edges wire) ++ wires_from edges (wire + 1) names
+
+abbrev pub and_more : Bool → List ℕ
+and_more are_more = if are_more then codes ", and more" else []
+
+-- all wires of a listing in a line
+abbrev pub wires_by : Bool → Option (List ℕ) → List (List ℕ) → List ℕ
+wires_by are_more edges [] = codes "no wire that its beginning names"
+wires_by are_more edges (name ∷ names) = wires_from edges 0 (name ∷ names) ++ and_more are_more
+
+abbrev pub wires_text : Listing → List ℕ
+wires_text listing = wires_by listing.wires.are_more (option_map (λ all. all.items) listing.edges)
+    (map string_bytes listing.wires.names.items)
 
 -- what is told where a recording has more wires
 abbrev pub more_note : Bool → List ℕ

@@ -43,10 +43,11 @@ fn no_naps() -> Naps {
 }
 
 // So many waits, with which the clock has been slept by so often in all.
-fn check_waits(rt: &impl Abort, pause: &mut Pause, naps: &Naps, waits: u64, slept: u64) {
+fn check_waits(rt: &impl Abort, pause: &mut Pause, naps: &Naps, waits: u64, slept: u32) {
     for _ in 0..waits {
         pause.wait(naps);
     }
+    let slept = u64::from(slept);
     assert_eq!(rt; naps.count.load(Ordering::SeqCst), slept);
     assert_eq!(rt; naps.micros.load(Ordering::SeqCst), slept * NAP);
 }

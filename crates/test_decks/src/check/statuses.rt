@@ -177,6 +177,35 @@ const WRONG_CODE: &[u8] =
 deck:2:27: the code is not 0, NNX or N11, nor one of plan 10; by [[number]] it is not 1 to 9 digits of a number:  { plan = 10, trunk = 17, \"code\" = \"2345\" } ]
 ";
 
+// A table alone with an entry of numbers that no number reaches, and one that some do, as 4900.
+const UNREACHED: &[u8] =
+    b"number = [ { digits = 4, begins = \"4\" }, { begins = \"40\", digits = 5 },\n\
+{ begins = \"41\", digits = 5 }, { begins = \"42\", digits = 5 }, { begins = \"43\", digits = 5 },\n\
+{ begins = \"44\", digits = 5 }, { begins = \"45\", digits = 5 }, { begins = \"46\", digits = 5 },\n\
+{ begins = \"47\", digits = 5 }, { begins = \"48\", digits = 5 }, { begins = \"49\", digits = 5 },\n\
+{ begins = \"\", digits = 3 } ]\n";
+
+const UNREACHED_TOLD: &[u8] =
+    b"deck:1:26: no number reaches this entry, since longer ones decide of all that begins so: number = [ { digits = 4, begins = \"4\" }, { begins = \"40\", di
+";
+
+const REACHED: &[u8] =
+    b"number = [ { digits = 4, begins = \"4\" }, { begins = \"40\", digits = 5 },\n\
+{ begins = \"41\", digits = 5 }, { begins = \"42\", digits = 5 }, { begins = \"43\", digits = 5 },\n\
+{ begins = \"44\", digits = 5 }, { begins = \"45\", digits = 5 }, { begins = \"46\", digits = 5 },\n\
+{ begins = \"47\", digits = 5 }, { begins = \"48\", digits = 5 },\n\
+{ begins = \"\", digits = 3 } ]\n";
+
+// A deck with keys of entries of numbers that are misspelt.
+const MISSPELT_NUMBER: &[u8] =
+    b"[[number]]\nbegins = \"\"\ndigits = 4\n[[number]]\nbegin = \"8\"\ndigit = 7\n---\n";
+
+const MISSPELT_NUMBER_TOLD: &[u8] =
+    b"deck:5:1: no rule names this key; here are begins and digits (did you mean begins?): begin = \"8\"
+deck:6:1: no rule names this key; here are begins and digits (did you mean digits?): digit = 7
+deck:4:1: this entry lacks begins or digits, or one of its keys has another kind of value: [[number]]
+";
+
 // A deck with twelve records of line 10000 and eleven breaks of 1 ms, one after the other.
 const REPEATED: &[u8] =
     b"---\nline,state,ms\n7,M,500\n10000,M,1\n10000,M,1\n7,B,1\n10000,M,1\n7,B,1\n10000,M,1\n7,B,1\n10000,M,1\n\
@@ -280,6 +309,8 @@ const PAGES: &[Page] = &[
     (&[], SECONDS, NO_DIGIT_FITS),
     (&[], TOO_SHORT, NO_DIGIT_FITS),
     (&[], LONG_ENOUGH, b""),
+    (&[], UNREACHED, UNREACHED_TOLD),
+    (&[], REACHED, b""),
     (&[], ONE_LONG_PULSE, TOO_LONG),
     (&[], NANOSECONDS, MUCH_TOO_LONG),
     (&[], TALKED, b""),
@@ -422,6 +453,13 @@ deck:4:1: this route lacks code or trunk, or one of its keys has another kind of
         1,
         b"deck:6:2: this route lacks code or trunk, or one of its keys has another kind of value:  code = 234\n",
         b"mfcheck: route table: route 2 has a wrong shape\n",
+    ),
+    (
+        &[],
+        MISSPELT_NUMBER,
+        1,
+        MISSPELT_NUMBER_TOLD,
+        b"mfcheck: route table: number 2 has a wrong shape\n",
     ),
     (
         &[],

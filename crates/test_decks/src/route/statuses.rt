@@ -96,6 +96,27 @@ const PAGES: &[Page] = &[
 {\"dialled\":\"611\",\"heard\":3,\"ignored\":\"\",\"outcome\":\"REFUSED\",\"reason\":\"UNKNOWN\"}\n\
 {\"dialled\":\"2349\",\"heard\":4,\"outcome\":\"INCOMPLETE\"}\n",
     ),
+    // lengths by entries of the table
+    (
+        &["club", "4111 9", "8234", "41"],
+        b"",
+        b"4111 KEYED 0009 KP:1100+1700 1:700+900 1:700+900 ST:1500+1700 IGNORED 9 LENGTH 4\n\
+8234 INCOMPLETE 4 LENGTH 7 BEGINS 8\n41 INCOMPLETE 2 LENGTH 4\n",
+    ),
+    (
+        &["club", "--json", "4111", "8234"],
+        b"",
+        b"{\"begins\":\"\",\"dialled\":\"4111\",\"ignored\":\"\",\"keys\":[\"KP\",\"1\",\"1\",\"ST\"],\"length\":4,\
+\"outcome\":\"KEYED\",\"sent\":\"11\",\"trunk\":9}\n\
+{\"begins\":\"8\",\"dialled\":\"8234\",\"heard\":4,\"length\":7,\"outcome\":\"INCOMPLETE\"}\n",
+    ),
+    (
+        &["one length", "--json", "8234567", "4"],
+        b"",
+        b"{\"begins\":\"8\",\"dialled\":\"8234567\",\"heard\":7,\"ignored\":\"\",\"length\":7,\"outcome\":\"REFUSED\",\
+\"reason\":\"UNKNOWN\"}\n\
+{\"dialled\":\"4\",\"heard\":1,\"length\":10,\"outcome\":\"INCOMPLETE\"}\n",
+    ),
     // standard input by its name: the table, or the numbers
     (
         &["-", "0"],

@@ -17,6 +17,14 @@ const ONE_DIGIT: &[u8] = b"[[route]]\ncode = \"234\"\ntrunk = 30\ndelete = 6\nse
 // None is.
 const NO_DIGITS: &[u8] = b"[[route]]\ncode = \"234\"\ntrunk = 30\ndelete = 7\nsend = \"dp\"\n";
 
+// A club's numbers: four digits, and seven of what begins with an 8.
+const CLUB: &[u8] =
+    b"[[number]]\nbegins = \"\"\ndigits = 4\n[[number]]\nbegins = \"8\"\ndigits = 7\n\
+[[route]]\ncode = \"41\"\ntrunk = 9\ndelete = 2\n";
+
+// Its seven digits alone: what does not begin with an 8 has ten.
+const ONE_LENGTH: &[u8] = b"[[number]]\nbegins = \"8\"\ndigits = 7\n";
+
 // The files that there are.
 pub(crate) const FOLDER: Folder = Folder(&[
     ("seven", SEVEN),
@@ -24,6 +32,8 @@ pub(crate) const FOLDER: Folder = Folder(&[
     ("no routes", b""),
     ("pulsed", PULSED),
     ("one digit", ONE_DIGIT),
+    ("club", CLUB),
+    ("one length", ONE_LENGTH),
     ("no digits", NO_DIGITS),
     (
         "wrong send",

@@ -8,7 +8,7 @@ use Rattle.xb_route.proofs.length_members.with_entry.Goals as goal
 
 pub returns-in_ok-put_entry-in-Object : goal.returns-in_ok-put_entry-in-Object
 returns-in_ok-put_entry-in-Object c =
-    let entry = option_copied c.args.entry.entry in
+    let entry = option_copied c.args.entry in
     view-Object c.put_entry.new.members
     ∙ ap object c.in_ok-put_entry-in-Object.ensures
     ∙ ap (with_entry entry) (sym (view-Object c.in-Object.members))
