@@ -8,6 +8,7 @@
 //!   where it is the tail that a room or an echo leaves of a key. `laws::unequal_keys_are_heard`: keys of which none
 //!   is weaker than by 4.8 dB, or 7.8 beside another pair, are no tails; `echoes_are_no_keys`: what is weaker for
 //!   longer than an edge is none. `tails_are_as_worked` has cases.
+//! - `level` and `power`: how strong a frequency is in a window, and all of it but for its mean.
 //! - `laws::keys_are_long_runs`: what is heard are the runs of windows that see the same and are long enough,
 //!   joined across holes too. `holes_change_nothing`: fewer than 8 windows in a row that see none change
 //!   nothing of a key that 5 windows see before them and 5 after. `hears_so_far`: what was given is not taken
@@ -42,5 +43,6 @@ pub use correlation::squares;
 pub use ear_parts::PlainEar;
 pub use echo_tails::TAIL_WINDOWS;
 pub use hearing::{Heard, Hearing};
+pub use levels::{level, power};
 pub use receiver::Receiver;
 pub use sight::Sight;

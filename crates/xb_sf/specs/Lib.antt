@@ -4,4 +4,3 @@ pub mod Machine
 pub mod Constants
 pub mod Sounds
 pub mod Worked
-pub mod Waves

@@ -19,7 +19,6 @@ mod hearing;
 pub mod laws;
 mod part;
 mod receiver;
-mod sums;
 
 pub use hearing::Turn;
 pub use receiver::SfReceiver;

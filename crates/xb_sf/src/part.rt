@@ -2,7 +2,7 @@
 ghost use Rattle.std.specs.Prelude.{◌≡◌, ◌≤◌, ◌<◌, ◌^◌, length};
 ghost use Rattle.xb_sf.specs.Parts.{is_against, part_by, part_of as part_in};
 
-use crate::sums::{level, power};
+use xb_ear::{level, power};
 
 /// The frequency of the tone, in Hz.
 pub(crate) const SF_HZ: u16 = 2_600;
