@@ -1,6 +1,6 @@
 -- What the words of the command line ask for, as clap reads them.
-use Rattle.std.specs.Prelude.{ℕ, ◌≡◌, ◌==◌, ◌||◌, List, codes, Bool, true, false, Option, Some, None, if◌then◌else◌, is_some, nat_lt, option_map}
-use Rattle.clap.specs.Walk.{Row, first_of}
+use Rattle.std.specs.Prelude.{ℕ, ◌≡◌, ◌==◌, ◌||◌, List, [], codes, Bool, true, false, Option, Some, None, if◌then◌else◌, is_some, nat_lt, option_map}
+use Rattle.clap.specs.Walk.{Row, Text, first_of}
 use Rattle.jiff_core.specs.declared.timestamp.Timestamp.{Timestamp}
 use Rattle.xb_clock.specs.Since.{ReadsSince}
 use Rattle.xb_clock.specs.declared.since.Since.{Since}
@@ -111,11 +111,30 @@ pub record SayAsked (rows : List Row) (asked : Asked) : Type 0 where
   pub deck : asked.deck ≡ options.deck
   pub request : request_of options ≡ Some asked.request
 
+-- what is told of words that ask for nothing: of the time, where it is none, or else of the line of the winks
+abbrev pub AreNothing : Misfit → Type 0
+AreNothing misfit = (misfit.option.now ≡ codes "line") × (misfit.value.now ≡ [])
+    × (misfit.reason.now ≡ codes "the words ask for nothing together")
+
+abbrev pub IsNoTime : Option Text → Misfit → Type 0
+IsNoTime (Some value) misfit = (misfit.option.now ≡ codes "since") × (misfit.value.now ≡ value)
+IsNoTime None misfit = AreNothing misfit
+
+abbrev pub IsNoStart : Option Text → Misfit → Type 0
+IsNoStart (Some value) misfit = (misfit.option.now ≡ codes "start") × (misfit.value.now ≡ value)
+    × (misfit.reason.now ≡ codes "the E lead of a trunk is another line than the one that sounds")
+IsNoStart None misfit = AreNothing misfit
+
+abbrev pub IsMisfit : Since → List Row → Misfit → Type 0
+IsMisfit since.NoTime rows misfit = IsNoTime (first_of (codes "since") rows) misfit
+IsMisfit given rows misfit = IsNoStart (first_of (codes "start") rows) misfit
+
 -- what clap matched says options that ask for nothing: a word that is no time, or a start line that is the line that
 -- sounds, or what a table refuses: a time without objects, a line that there is not, options of entries beside a line
 -- that sounds, or a start line or times of keys without one
-abbrev pub AskNothing : List Row → Type 0
-AskNothing rows = (options : Options) × Say rows options × (request_of options ≡ None)
+abbrev pub AskNothing : List Row → Misfit → Type 0
+AskNothing rows misfit =
+    (options : Options) × Say rows options × (request_of options ≡ None) × IsMisfit options.since rows misfit
 
 -- the words of a call are taken, and ask for this
 pub record Asks (call : Call) (asked : Asked) : Type 0 where
@@ -127,4 +146,4 @@ pub record Asks (call : Call) (asked : Asked) : Type 0 where
 pub record AsksNothing (call : Call) (misfit : Misfit) : Type 0 where
   pub rows : List Row
   pub takes : Takes call rows
-  pub says : AskNothing rows
+  pub says : AskNothing rows misfit

@@ -1,6 +1,6 @@
 // The words of the program, and what they ask for.
-ghost use Rattle.std.specs.Prelude.{◌≡◌, IfErr, IfOk};
-ghost use Rattle.xb_live.specs.Options.{AskNothing, Say, SayAsked, asks_entries, cadence_of, form_of, form_with_events, goes_with_sound, objects_since, request_of, start_of};
+ghost use Rattle.std.specs.Prelude.{◌≡◌, IfErr, IfOk, option_map};
+ghost use Rattle.xb_live.specs.Options.{AskNothing, IsMisfit, IsNoStart, IsNoTime, Say, SayAsked, asks_entries, cadence_of, form_of, form_with_events, goes_with_sound, objects_since, request_of, start_of};
 
 use crate::entry_text::EntryForm;
 use crate::request::{Asked, Request};
@@ -278,16 +278,25 @@ fn request_of(options: Options<'_>) -> Option<Request>
     }
 }
 
-// What is said of words that ask for nothing: the time is none, or the line of the winks is the one that sounds.
-fn misfit_of<'a>(words: &Words<'a>, options: Options<'_>) -> Misfit<'a> {
-    if let (Since::NoTime, Some(value)) = (options.since, words.text("since")) {
-        return Misfit {
+// What is said of a time that is none.
+fn misfit_of_time(value: Option<&str>) -> Misfit<'_>
+    ensures { IsNoTime (option_map (λ text. text.now) value.entry) result }
+{
+    match value {
+        Some(value) => Misfit {
             option: "since",
             value,
             reason: no_time(value),
-        };
+        },
+        None => NOTHING,
     }
-    match words.text("start") {
+}
+
+// What is said of a line of winks that is the one that sounds.
+fn misfit_of_start(value: Option<&str>) -> Misfit<'_>
+    ensures { IsNoStart (option_map (λ text. text.now) value.entry) result }
+{
+    match value {
         Some(value) => Misfit {
             option: "start",
             value,
@@ -297,11 +306,21 @@ fn misfit_of<'a>(words: &Words<'a>, options: Options<'_>) -> Misfit<'a> {
     }
 }
 
+// What is said of words that ask for nothing: the time is none, or the line of the winks is the one that sounds.
+fn misfit_of<'a>(words: &Words<'a>, since: Since) -> Misfit<'a>
+    ensures { IsMisfit since words.now result }
+{
+    match since {
+        Since::NoTime => misfit_of_time(words.text("since")),
+        Since::NotGiven | Since::Time(_) => misfit_of_start(words.text("start")),
+    }
+}
+
 /// What the words ask for: entries in a form, or the sound of a line by the standard cadence with each time that is
 /// given in place of its own. A time over 65,535 ms counts as that.
 pub(crate) fn asked_of<'a>(words: &Words<'a>) -> Result<Asked<'a>, Misfit<'a>>
     ensures says { IfOk result (λ asked. SayAsked words.now asked) }
-    ensures nothing { IfErr result (λ _. AskNothing words.now) }
+    ensures nothing { IfErr result (AskNothing words.now) }
 {
     let options = options_of(words);
     match request_of(options) {
@@ -309,6 +328,6 @@ pub(crate) fn asked_of<'a>(words: &Words<'a>) -> Result<Asked<'a>, Misfit<'a>>
             deck: options.deck,
             request,
         }),
-        None => Err(misfit_of(words, options)),
+        None => Err(misfit_of(words, options.since)),
     }
 }
