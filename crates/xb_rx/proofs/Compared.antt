@@ -89,11 +89,11 @@ pub not-heard : (how : Input) (keyed : List KeyedEntry) (bytes : Option (List �
 not-heard how keyed bytes page f a b heard =
     (Some [], λ clock tells. not-paged clock how page a b keyed bytes f heard)
 
-module _ (file : Option (List ℕ)) (how : Input) (bytes : Option (List ℕ)) where
+module _ (name : List ℕ) (file : Option (List ℕ)) (how : Input) (bytes : Option (List ℕ)) where
   -- a fault of the file, of which nothing was written
-  pub file-fault : (f : CompareProgramFault) (a b : Option (List ℕ)) → IsFileFault file f
-      → Compares file how bytes (Err f) (outputs a a b b)
-  file-fault (compare_fault.File name e) a b is = (Keeps-refl a, inl (Keeps-refl b, is))
+  pub file-fault : (f : CompareProgramFault) (a b : Option (List ℕ)) → IsFileFault name file f
+      → Compares name file how bytes (Err f) (outputs a a b b)
+  file-fault (compare_fault.File told e) a b is = (Keeps-refl a, inl (Keeps-refl b, is))
   file-fault (compare_fault.Keyed f) a b is = (Keeps-refl a, inl (Keeps-refl b, is))
   file-fault (compare_fault.Sound f) a b is = absurd is
   file-fault compare_fault.NoMemory a b is = (Keeps-refl a, inl (Keeps-refl b, is))
@@ -102,8 +102,8 @@ module _ (file : Option (List ℕ)) (how : Input) (bytes : Option (List ℕ)) wh
 
   -- one of the sound, of which only keys were told
   pub sound-fault : (f : CompareProgramFault) (a b d : Option (List ℕ)) → IsSoundFault how bytes f b d
-      → Compares file how bytes (Err f) (outputs a a b d)
-  sound-fault (compare_fault.File name e) a b d is = absurd is
+      → Compares name file how bytes (Err f) (outputs a a b d)
+  sound-fault (compare_fault.File told e) a b d is = absurd is
   sound-fault (compare_fault.Keyed f) a b d is = absurd is
   sound-fault (compare_fault.Sound f) a b d is = (Keeps-refl a, inr is)
   sound-fault compare_fault.NoMemory a b d is = (Keeps-refl a, inr is)
@@ -112,13 +112,13 @@ module _ (file : Option (List ℕ)) (how : Input) (bytes : Option (List ℕ)) wh
 
   module _ (keyed heard : List KeyedEntry) (text : List ℕ) (outs : Outputs) (has : HasKeyed file keyed)
       (page : IsHeard how bytes heard outs.told_old outs.told_new) (is : text ≡ differences keyed heard) where
-    pub no-difference : text ≡ [] → Appends outs.page_old outs.page_new text → Compares file how bytes (Ok tt) outs
+    pub no-difference : text ≡ [] → Appends outs.page_old outs.page_new text → Compares name file how bytes (Ok tt) outs
     no-difference none wrote =
         (keyed, heard, has, page, (sym is ∙ none, subst (Appends outs.page_old outs.page_new) is wrote))
 
-    pub some-difference : text ≢ [] → Appends outs.page_old outs.page_new text → Compares file how bytes (Err compare_fault.Differ) outs
+    pub some-difference : text ≢ [] → Appends outs.page_old outs.page_new text → Compares name file how bytes (Err compare_fault.Differ) outs
     some-difference some wrote =
         (keyed, heard, has, page, ((λ none. some (is ∙ none)), subst (Appends outs.page_old outs.page_new) is wrote))
 
-    pub begun-difference : AppendsBeginning outs.page_old outs.page_new text → Compares file how bytes (Err compare_fault.Write) outs
+    pub begun-difference : AppendsBeginning outs.page_old outs.page_new text → Compares name file how bytes (Err compare_fault.Write) outs
     begun-difference wrote = (keyed, heard, has, page, subst (AppendsBeginning outs.page_old outs.page_new) is wrote)

@@ -36,12 +36,12 @@ IsHeard how (Some bytes) heard old new =
     (sound : Sound) × (sound_by how bytes ≡ Ok sound) × IsWhole sound
     × Appends old new (told_text_of (written.Page 0 0) sound.samples) × (heard ≡ heard_entries (keys_of_sound sound.samples))
 
--- why a file gives no keyed entries
-abbrev pub IsFileFault : Option (List ℕ) → CompareProgramFault → Type 0
-IsFileFault file (fault.File name e) = Unit {0}
-IsFileFault file (fault.Keyed f) = IfSome file (λ page. IsFaultOf (lf_ended page) f)
-IsFileFault file fault.NoMemory = Unit {0}
-IsFileFault file f = ⊥
+-- why the file of a name gives no keyed entries: the fault names it, where it could not be read
+abbrev pub IsFileFault : List ℕ → Option (List ℕ) → CompareProgramFault → Type 0
+IsFileFault name file (fault.File told e) = told.now ≡ name
+IsFileFault name file (fault.Keyed f) = IfSome file (λ page. IsFaultOf (lf_ended page) f)
+IsFileFault name file fault.NoMemory = Unit {0}
+IsFileFault name file f = ⊥
 
 abbrev pub page_request : Input → Request
 page_request how = record { written = written.Page 0 0; since = None; input = how }
@@ -67,16 +67,18 @@ IsDifferences how bytes keyed text old new =
     (heard : List KeyedEntry) × IsHeard how bytes heard old new × (text ≡ differences keyed heard)
 
 -- there are none, or they were written, or their beginning; or a fault says why they are not known
-abbrev pub Compares : Option (List ℕ) → Input → Option (List ℕ) → Result (Unit {0}) CompareProgramFault → Outputs → Type 0
-Compares file how bytes (Ok u) outs =
+abbrev pub Compares :
+    List ℕ → Option (List ℕ) → Input → Option (List ℕ) → Result (Unit {0}) CompareProgramFault → Outputs → Type 0
+Compares name file how bytes (Ok u) outs =
     HasDifferences file how bytes (λ text. (text ≡ []) × Appends outs.page_old outs.page_new text) outs
-Compares file how bytes (Err fault.Differ) outs =
+Compares name file how bytes (Err fault.Differ) outs =
     HasDifferences file how bytes (λ text. (text ≢ []) × Appends outs.page_old outs.page_new text) outs
-Compares file how bytes (Err fault.Write) outs =
+Compares name file how bytes (Err fault.Write) outs =
     HasDifferences file how bytes (λ text. AppendsBeginning outs.page_old outs.page_new text) outs
-Compares file how bytes (Err f) outs =
+Compares name file how bytes (Err f) outs =
     Keeps outs.page_old outs.page_new
-    × ((Keeps outs.told_old outs.told_new × IsFileFault file f) ⊎ IsSoundFault how bytes f outs.told_old outs.told_new)
+    × ((Keeps outs.told_old outs.told_new × IsFileFault name file f)
+    ⊎ IsSoundFault how bytes f outs.told_old outs.told_new)
 
 -- the same entry without its time, as a page has it
 abbrev pub as_paged : KeyedEntry → KeyedEntry

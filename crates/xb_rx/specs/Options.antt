@@ -1,5 +1,5 @@
 -- What the words of the command line ask for, as clap reads them.
-use Rattle.std.specs.Prelude.{ℕ, ◌≡◌, ◌-◌, ◌&&◌, not, ◌||◌, List, Bool, false, if◌then◌else◌, Option, Some, None, bytes_eq, codes, is_some, nat_le, nat_lt, option_and_then, option_map, unwrap_or}
+use Rattle.std.specs.Prelude.{ℕ, ◌≡◌, ◌-◌, ◌&&◌, not, ◌||◌, List, [], Bool, false, if◌then◌else◌, Option, Some, None, bytes_eq, codes, is_some, nat_le, nat_lt, option_and_then, option_map, unwrap_or}
 use Rattle.clap.specs.Walk.{Row, Text, first_of}
 use Rattle.jiff_core.specs.declared.timestamp.Timestamp.{Timestamp}
 use Rattle.xb_clock.specs.Since.{ReadsSince}
@@ -7,6 +7,7 @@ use Rattle.xb_clock.specs.declared.since.Since.{Since}
 use Rattle.xb_clock.specs.declared.since.Since.TheVariants as since
 use Rattle.xb_command.specs.Answers.{Takes}
 use Rattle.xb_command.specs.Given.{ReadsFlag, ReadsNumber, given_by}
+use Rattle.xb_command.specs.declared.asking.Misfit.{Misfit}
 use Rattle.xb_command.specs.declared.table.Call.{Call}
 use Rattle.xb_model.specs.declared.line.TheConstants.{LINES}
 use Rattle.xb_model.specs.declared.trunk.TheConstants.{TRUNKS}
@@ -148,9 +149,35 @@ pub record SayAsked (rows : List Row) (asked : Asked) : Type 0 where
   pub request : request_by options ≡ Some (asked_request asked)
   pub against : asked.against ≡ options.against
 
--- what clap matched says options that ask for nothing
-abbrev pub AskNothing : List Row → Type 0
-AskNothing rows = (options : Options) × Say rows options × (request_by options ≡ None)
+-- what is told of the value that an option was given, and why, or else that the words ask for nothing together
+abbrev pub TellsOf : Text → Text → Option Text → Misfit → Type 0
+TellsOf option reason (Some value) misfit =
+    (misfit.option.now ≡ option) × (misfit.value.now ≡ value) × (misfit.reason.now ≡ reason)
+TellsOf option reason None misfit = (misfit.option.now ≡ codes "line") × (misfit.value.now ≡ [])
+    × (misfit.reason.now ≡ codes "the words ask for nothing together")
+
+-- of a rate that has no whole number of samples to one that is heard, or else of the channel
+abbrev pub TellsOfSound : Option ℕ → List Row → Misfit → Type 0
+TellsOfSound None rows misfit = TellsOf (codes "rate")
+    (codes "a rate is 8000, or 2, 3, 4, 6, 8, 12 or 24 times as many") (first_of (codes "rate") rows) misfit
+TellsOfSound (Some frames) rows misfit = TellsOf (codes "channel")
+    (codes "there is no such channel: --channels says how many there are (1)") (first_of (codes "channel") rows) misfit
+
+-- of a time that is none, or else of the sound
+abbrev pub IsNoTime : Option Text → Misfit → Type 0
+IsNoTime given misfit = (reason : Text) × TellsOf (codes "since") reason given misfit
+
+abbrev pub IsMisfitBy : Since → Option ℕ → List Row → Misfit → Type 0
+IsMisfitBy since.NoTime frames rows misfit = IsNoTime (first_of (codes "since") rows) misfit
+IsMisfitBy given frames rows misfit = TellsOfSound frames rows misfit
+
+abbrev pub IsMisfit : Options → List Row → Misfit → Type 0
+IsMisfit options rows misfit = IsMisfitBy options.since (frames_of (unwrap_or options.rate 8000)) rows misfit
+
+-- what clap matched says options that ask for nothing, and why
+abbrev pub AskNothing : List Row → Misfit → Type 0
+AskNothing rows misfit =
+    (options : Options) × Say rows options × (request_by options ≡ None) × IsMisfit options rows misfit
 
 -- the words of a call are taken, and ask for this, or for nothing
 pub record Asks (call : Call) (asked : Asked) : Type 0 where
@@ -158,7 +185,7 @@ pub record Asks (call : Call) (asked : Asked) : Type 0 where
   pub takes : Takes call rows
   pub says : SayAsked rows asked
 
-pub record AsksNothing (call : Call) : Type 0 where
+pub record AsksNothing (call : Call) (misfit : Misfit) : Type 0 where
   pub rows : List Row
   pub takes : Takes call rows
-  pub says : AskNothing rows
+  pub says : AskNothing rows misfit

@@ -21,7 +21,8 @@ abbrev pub IsDone : Bytes → Request → Option (Bor Text) → Streams → Stre
 IsDone bytes request None old new =
     DeliversTimed request old.input (Ok tt) (outputs old.output new.output old.errors new.errors)
 IsDone bytes request (Some name) old new =
-    Compares (bytes name.now) request.input old.input (Ok tt) (outputs old.output new.output old.errors new.errors)
+    Compares name.now (bytes name.now) request.input old.input (Ok tt)
+    (outputs old.output new.output old.errors new.errors)
 
 -- there was a fault, before whose line this was told
 abbrev pub HadFault : Text → Bytes → Request → Option (Bor Text) → Streams → Streams → Option (List ℕ) → Type 0
@@ -30,7 +31,8 @@ HadFault program bytes request None old new told =
     × Tells program (Some (rx_text fault)) told new.errors
 HadFault program bytes request (Some name) old new told =
     (fault : CompareProgramFault)
-    × Compares (bytes name.now) request.input old.input (Err fault) (outputs old.output new.output old.errors told)
+    × Compares name.now (bytes name.now) request.input old.input (Err fault)
+    (outputs old.output new.output old.errors told)
     × Tells program (difference_text fault) told new.errors
 
 -- there was a fault, and a line says so, after those of keys that stand in no keying
@@ -43,7 +45,7 @@ pub record HasFault (request : Request) (against : Option (Bor Text)) (program :
 abbrev pub by_rx : Rules Asked
 by_rx = record {
   Asks = Asks;
-  Misfits = λ call misfit. AsksNothing call;
+  Misfits = AsksNothing;
   source = λ asked. file_source asked.sound;
   Done = λ asked program bytes old new. IsDone bytes (asked_request asked) asked.against old new;
   Fails = λ asked program bytes old new. HasFault (asked_request asked) asked.against program bytes old new;

@@ -85,7 +85,7 @@ fn keyed_in<'a, F: Files>(
     name: &'a str,
 ) -> Result<Vec<Keyed>, CompareProgramFault<'a>>
     ensures keyed { IfOk result (λ keyed. HasKeyed (F.bytes files.now name.entry.now) keyed.items) }
-    ensures fault { IfErr result (IsFileFault (F.bytes files.now name.entry.now)) }
+    ensures fault { IfErr result (IsFileFault name.entry.now (F.bytes files.now name.entry.now)) }
 {
     let page = match page_of_file(alloc, files, name) {
         Ok(page) => page,
@@ -135,7 +135,7 @@ pub fn compare<'a, F: Files, R: Read, W: Write, E: Write>(
     err: &mut E,
 ) -> Result<(), CompareProgramFault<'a>>
     requires { HasForm input }
-    ensures { Compares (F.bytes files.now name.entry.now) input (R.remaining sound.old) result
+    ensures { Compares name.entry.now (F.bytes files.now name.entry.now) input (R.remaining sound.old) result
         (outputs (W.contents out.old) (W.contents out.new) (E.contents err.old) (E.contents err.new)) }
 {
     let keyed = keyed_in(alloc, files, name)?;

@@ -1,8 +1,10 @@
 // The words of the program, and what they ask for.
-ghost use Rattle.std.specs.Prelude.{◌≡◌, ◌<◌, ◌≤◌, IfErr, IfOk, IfSome, option_map};
+ghost use Rattle.std.specs.Prelude.{◌≡◌, ◌<◌, ◌≤◌, IfErr, IfOk, IfSome, codes, option_map, unwrap_or};
+ghost use Rattle.clap.specs.Walk.{first_of};
 ghost use Rattle.xb_rx.specs.Hearing.{HasForm};
 ghost use Rattle.xb_rx.specs.Samples.{IsForm};
-ghost use Rattle.xb_rx.specs.Options.{AskNothing, Say, SayAsked, channel_of, channels_of, input_of, is_mu_law, is_plain, is_raw, line_of, raw_coding, raw_form, request_by, request_of, says_told, shown_by, time_of, told_keys, told_of, trunk_of, written_of};
+ghost use Rattle.xb_rx.specs.Starts.{frames_of};
+ghost use Rattle.xb_rx.specs.Options.{AskNothing, IsMisfit, IsNoTime, Say, SayAsked, TellsOf, TellsOfSound, channel_of, channels_of, input_of, is_mu_law, is_plain, is_raw, line_of, raw_coding, raw_form, request_by, request_of, says_told, shown_by, time_of, told_keys, told_of, trunk_of, written_of};
 
 use crate::request::{Asked, Input, Request, Written};
 use crate::{Coding, MOST_CHANNELS, SampleForm, frames_of};
@@ -389,7 +391,9 @@ fn request_by(options: Options<'_>) -> Option<Request>
 }
 
 // What is said of a text that an option was given.
-fn misfit_at<'a>(option: &'static str, text: Option<&'a str>, reason: &'static str) -> Misfit<'a> {
+fn misfit_at<'a>(option: &'static str, text: Option<&'a str>, reason: &'static str) -> Misfit<'a>
+    ensures { TellsOf option.entry.now reason.entry.now (option_map (λ text. text.now) text.entry) result }
+{
     match text {
         Some(value) => Misfit {
             option,
@@ -400,23 +404,40 @@ fn misfit_at<'a>(option: &'static str, text: Option<&'a str>, reason: &'static s
     }
 }
 
-// What is said of words that ask for nothing: the time is none, or else the rate, or the channel.
-fn misfit_of<'a>(words: &Words<'a>, options: Options<'_>) -> Misfit<'a> {
-    if let (Since::NoTime, Some(text)) = (options.since, words.text("since")) {
-        return misfit_at("since", Some(text), no_time(text));
-    }
-    if frames_of(options.rate.unwrap_or(8_000)).is_none() {
-        return misfit_at(
+// What is said of a time that is none.
+fn misfit_of_time<'a>(words: &Words<'a>) -> Misfit<'a>
+    ensures { IsNoTime (first_of (codes "since") words.now) result }
+{
+    let text = words.text("since");
+    misfit_at("since", text, no_time(text.unwrap_or("")))
+}
+
+// What is said of the rate, where it is none, or else of the channel.
+fn misfit_of_sound<'a>(words: &Words<'a>, rate: Option<u32>) -> Misfit<'a>
+    ensures { TellsOfSound (frames_of (unwrap_or rate 8000)) words.now result }
+{
+    match frames_of(rate.unwrap_or(8_000)) {
+        None => misfit_at(
             "rate",
             words.text("rate"),
             "a rate is 8000, or 2, 3, 4, 6, 8, 12 or 24 times as many",
-        );
+        ),
+        Some(_) => misfit_at(
+            "channel",
+            words.text("channel"),
+            "there is no such channel: --channels says how many there are (1)",
+        ),
     }
-    misfit_at(
-        "channel",
-        words.text("channel"),
-        "there is no such channel: --channels says how many there are (1)",
-    )
+}
+
+// What is said of words that ask for nothing: the time is none, or else the rate, or the channel.
+fn misfit_of<'a>(words: &Words<'a>, options: Options<'_>) -> Misfit<'a>
+    ensures { IsMisfit options.entry words.now result }
+{
+    match options.since {
+        Since::NoTime => misfit_of_time(words),
+        Since::NotGiven | Since::Time(_) => misfit_of_sound(words, options.rate),
+    }
 }
 
 /// What the words ask for: the page of a line, by a trunk group, or a line for each key, or objects, with times of day
@@ -424,7 +445,7 @@ fn misfit_of<'a>(words: &Words<'a>, options: Options<'_>) -> Misfit<'a> {
 /// page.
 pub(crate) fn asked_of<'a>(words: &Words<'a>) -> Result<Asked<'a>, Misfit<'a>>
     ensures says { IfOk result (λ asked. SayAsked words.now asked) }
-    ensures nothing { IfErr result (λ _. AskNothing words.now) }
+    ensures nothing { IfErr result (AskNothing words.now) }
 {
     let options = options_of(words);
     match request_by(options) {
