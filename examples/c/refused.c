@@ -377,9 +377,10 @@ static void try_texts(void)
     refuses_text("[[route]]\ncode = \"0\"\ntrunk = 1\n[[route]]\ncode = \"0\"\ntrunk = 2\n", MF_CODE_TWICE,
                  "route 2 repeats a code");
     refuses_text("plan = 7\n[[number]]\nbegins = \"\"\ndigits = 4\n", MF_PLAN_AND_NUMBER, "both plan and number");
-    char many[101 * 34 + 1] = "";
-    for (int entry = 0; entry < 101; entry++)
-        strcat(many, "[[number]]\nbegins = \"\"\ndigits = 4\n");
+    const char number[] = "[[number]]\nbegins = \"\"\ndigits = 4\n";
+    char many[101 * (sizeof number - 1) + 1] = "";
+    for (size_t entry = 0; entry < 101; entry++)
+        memcpy(many + entry * (sizeof number - 1), number, sizeof number);
     refuses_text(many, MF_MANY_NUMBERS, "more than 100 numbers");
     refuses_text("[[number]]\nbegins = \"\"\n", MF_NUMBER_SHAPE, "number 1 has a wrong shape");
     refuses_text("number = 4\n", MF_NUMBER_SHAPE, "number 0 has a wrong shape");
