@@ -50,11 +50,11 @@ fn numbers_that_no_entry_has(rt: HostRuntime) -> Result<(), Fail> {
 // A whole number may be a code, and the longest code decides.
 #[test]
 fn codes_of_lengths(rt: HostRuntime) -> Result<(), Fail> {
-    let routes = "[[route]]\ncode = \"4\"\ntrunk = 40\ndelete = 2\n\
+    let routes = "[[route]]\ncode = \"4\"\ntrunk = 40\ndelete = 1\n\
         [[route]]\ncode = \"4234\"\ntrunk = 41\n\
         [[route]]\ncode = \"8\"\ntrunk = 80\ndelete = 7\nprefix = \"5\"\n";
     let text = joined(rt.alloc(), &[CLUB, routes])?;
-    check_route(&rt, rt.alloc(), &text, "4111", (40, 2, ""))?;
+    check_route(&rt, rt.alloc(), &text, "4111", (40, 1, ""))?;
     check_route(&rt, rt.alloc(), &text, "4234", (41, 0, ""))?;
     check_route(&rt, rt.alloc(), &text, "8234567", (80, 7, "5"))?;
     Ok(())

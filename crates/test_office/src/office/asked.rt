@@ -19,6 +19,9 @@ use xb_ring::{GREATEST_CAPACITY, MOST_BRANCHES};
 /// widest ring. A post that gets a number of each line falls asleep before the next one comes.
 const LINES: u16 = 14;
 
+/// How many lines dial where a chain of eight senders is asked for: enough for a post to wait so long that it sleeps.
+const MANY_LINES: u16 = 400;
+
 /// How many posts a chain of one sender has.
 const POSTS_OF_ONE: u64 = 8;
 
@@ -116,19 +119,20 @@ impl<'a, R: Clock> Clock for Dormitory<'a, R> {
     }
 }
 
-// A deck in which each line dials.
-fn deck_of_calls(alloc: Global) -> Result<String, Fail> {
+// A deck in which each of so many lines dials.
+fn deck_of_calls(alloc: Global, lines: u16) -> Result<String, Fail> {
     let mut rows = Vec::new(alloc);
-    for line in 0..LINES {
+    for line in 0..lines {
         rows.extend_from_slice(&rows_of(alloc, line, "M500 #2 #3 #4 #5 #6 #7 #8")?)?;
     }
     deck_of(alloc, TABLE, &rows)
 }
 
-// Whether so many posts all sleep for so many nights while the calls are keyed.
+// Whether so many posts all sleep for so many nights while the calls of so many lines are keyed.
 fn have_nights<R: Threads + Wait + Clock + Sync>(
     rt: &R,
     alloc: Global,
+    lines: u16,
     posts: u64,
     nights: u64,
     senders: usize,
@@ -137,7 +141,7 @@ fn have_nights<R: Threads + Wait + Clock + Sync>(
     requires senders { (1 ≤ senders) × (senders ≤ MOST_BRANCHES) }
     requires ring { (1 ≤ ring) × (ring ≤ GREATEST_CAPACITY) }
 {
-    let deck = deck_of_calls(alloc)?;
+    let deck = deck_of_calls(alloc, lines)?;
     let mut page: Vec<u8> = Vec::new(alloc);
     let dormitory = Dormitory::new(rt, posts, nights);
     operate_on(
@@ -154,11 +158,11 @@ fn have_nights<R: Threads + Wait + Clock + Sync>(
 
 #[test]
 fn operate_has_the_room_and_the_senders_that_it_is_asked_for(rt: HostRuntime) -> Result<(), Fail> {
-    let waits = have_nights(&rt, rt.alloc(), POSTS_OF_ONE, TWO_NIGHTS, 1, 1)?;
+    let waits = have_nights(&rt, rt.alloc(), LINES, POSTS_OF_ONE, TWO_NIGHTS, 1, 1)?;
     assert!(rt; waits, "no post waits for room");
-    let waits = have_nights(&rt, rt.alloc(), POSTS_OF_ONE, TWO_NIGHTS, 1, 1_024)?;
+    let waits = have_nights(&rt, rt.alloc(), LINES, POSTS_OF_ONE, TWO_NIGHTS, 1, 1_024)?;
     assert!(rt; !waits, "the feed waits for room");
-    let are_there = have_nights(&rt, rt.alloc(), POSTS_OF_EIGHT, 1, 8, 1)?;
+    let are_there = have_nights(&rt, rt.alloc(), MANY_LINES, POSTS_OF_EIGHT, 1, 8, 1)?;
     assert!(rt; are_there, "fifteen posts are not asleep at once");
     Ok(())
 }
