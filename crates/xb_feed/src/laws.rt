@@ -11,7 +11,7 @@ pub fn constants()
 {}
 
 /// What is counted of a contact, hold by hold, are the bounces of its record, and the longest of them: short runs in a row
-/// are one. The run that is under way where the recording ends is none of them.
+/// are one. The run that is under way where the recording ends is not counted.
 pub fn the_bounces_are_counted()
     ensures { CountsTheBounces }
 {}
